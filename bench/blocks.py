@@ -87,7 +87,7 @@ RUNS = f"history | BLOCK:, | seconds:.3f | relative, {MOST_OF_RUN}:.2f | peak MB
 
 
 def answers_of(history: History, lot: random.Random, verb: str) -> tuple[int, float, float]:
-    """How often questions of a verb are asked, and the seconds of one with one block and with four."""
+    """Return how often questions of a verb are asked, and the seconds of one with one block and with four."""
     later = later_half(history.pegs)
     lines = [drawn_line(lot, later, verb) for _ in range(ASKED)]
     once = history.timed(verb, lines, FOUR_WORKERS)

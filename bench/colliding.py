@@ -57,5 +57,5 @@ class Finder:
 
 
 def side(count: int) -> int:
-    """How many directories, and how many files, have so many pairs that collide."""
+    """Return how many directories, and how many files, have so many pairs that collide."""
     return math.ceil(math.sqrt(count * (1 << BITS) * SPARE))

@@ -30,7 +30,7 @@ ONE_FILE = BEGIN + revision(1, added(b"a", FILE))
 
 
 def repeated(name: str, before: bytes, block: bytes = b"", after: bytes = b"") -> Maker:
-    """What makes a block so often, in large pieces, between other bytes."""
+    """Return a function that makes a block so often, in large pieces, between other bytes."""
 
     def make(count: int) -> Pieces:
         each = PIECE // max(1, len(block))

@@ -47,8 +47,8 @@ OUT_OF_MEMORY = 4
 
 @dataclass(frozen=True)
 class Shape:
-    """What makes the dump and the queries, the size that both are made for, the status of all answers or why the dump
-    is refused, and how the program is run."""
+    """A shape of input: what makes the dump and the queries, their size, the status of all answers or why the dump is
+    refused, and how the program is run."""
 
     dump: Maker
     size: int
@@ -161,7 +161,7 @@ class Input:
 
     @property
     def is_ended(self) -> bool:
-        """Whether it was not run, or the run had to be ended."""
+        """Return whether it was not run, or the run had to be ended."""
         return not self.runs or self.runs[0].outcome.status in (-signal.SIGALRM, OUT_OF_MEMORY)
 
     @property

@@ -42,7 +42,7 @@ VERBS = {"locate": None, "segments": LEAST_OF_SUBVERSION, "log": LEAST_OF_SUBVER
 
 
 def nodes_of(rev: int) -> list[Node]:
-    """What a revision does to the file."""
+    """Return what a revision does to the file."""
     number = sum(copy <= rev for copy in COPIES)
     copies = [Node(NAME % number, b"add", FILE, Source(NAME % (number - 1), rev - 1))] if rev in COPIES else []
     changes = [Node(NAME % number, b"change", FILE)] if rev in CHANGES else []

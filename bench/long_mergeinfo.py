@@ -111,7 +111,7 @@ class Targets:
         return found
 
     def described(self, pairs: list[Pair]) -> str:
-        """How many targets there are, and how many values they have, by the merges of their branches."""
+        """Return how many targets there are, and how many values they have, by the merges of their branches."""
         merges: dict[str, list[int]] = defaultdict(list)
         for value in self.values:
             merges[value.path].append(value.rev)

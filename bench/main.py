@@ -66,7 +66,7 @@ def version_of_subversion() -> str | None:
 
 
 def machine() -> dict[str, Any]:
-    """What the measurements were made on."""
+    """Return what the measurements were made on."""
     info = Path("/proc/cpuinfo").read_text(encoding="utf-8", errors="replace").splitlines()
     models = [line.partition(": ")[2] for line in info if line.startswith("model name")]
     return {

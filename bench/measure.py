@@ -26,7 +26,7 @@ def in_words(words: Words) -> str:
 
 
 class SameReport:
-    """What some commands must print: the same report each time, with so many answers."""
+    """The report that some commands must print: the same each time, with so many answers."""
 
     def __init__(self, subject: str, count: int) -> None:
         self.subject = subject

@@ -39,7 +39,7 @@ class Refused(Exception):
 
 
 def report_of(path: Path, is_trial: bool) -> Any:
-    """What was measured, in full size unless it is for a trial."""
+    """Return what was measured, in full size unless it is for a trial."""
     report = json.loads(path.read_text(encoding="utf-8"))
     try:
         if report["is_quick"] and not is_trial:
@@ -68,7 +68,7 @@ def machine_in_words(report: Any) -> str:
 
 
 def limits_in_words(report: Any) -> str:
-    """How many figures meet their limits, and of which parts the others are."""
+    """Return how many figures meet their limits, and of which parts the others are."""
     limits = {part["name"]: part["limits"] for part in report["parts"]}
     missed = {name: sum(not limit["is_met"] for limit in found) for name, found in limits.items()}
     count = sum(map(len, limits.values()))

@@ -13,7 +13,7 @@ MOST, LEAST = "at most", "at least"
 
 @dataclass(frozen=True)
 class Limit:
-    """What a figure may be at most, or has to be at least. The text says what the figure is."""
+    """A limit of a figure from above or from below. The text says what the figure is."""
 
     side: str
     bound: float
@@ -100,8 +100,8 @@ def limits_table(name: str, judged: Iterable[Judged], absent: Iterable[Limit] = 
 
 @dataclass(frozen=True)
 class Setup:
-    """What a part measures with: the programs, of which one may be an older build, a folder for its files, one for what
-    parts share, and how often it measures."""
+    """The means of a part: the programs, of which one may be an older build, a folder for its files, one for what parts
+    share, and how often it measures."""
 
     program: Path
     live: Path
@@ -146,8 +146,8 @@ def judged_rows(items: Iterable[Item]) -> Iterator[tuple[Row, Judged]]:
 
 
 def part_to_json(part: Part, items: Sequence[Item]) -> dict[str, Any]:
-    """What was measured: tables, with their Markdown, sentences, and each figure that has a limit, beside the words of
-    its row."""
+    """Return what was measured: tables, with their Markdown, sentences, and each figure that has a limit, beside the
+    words of its row."""
     limits = [
         {"row": [word for word in row if isinstance(word, str)], **asdict(judged), "is_met": judged.is_met}
         for row, judged in judged_rows(items)

@@ -56,7 +56,7 @@ class Point(NamedTuple):
 
 
 class Series(NamedTuple):
-    """What is measured at some lengths, the shortest first."""
+    """The measurements at some lengths, the shortest first."""
 
     name: str
     points: list[Point]
@@ -76,7 +76,7 @@ class Scale(NamedTuple):
 
 
 def series_of(report: Any) -> list[Series]:
-    """What was measured, from the table of the part."""
+    """Return what was measured, from the table of the part."""
     try:
         tables = [table for part in report["parts"] for table in part["tables"] if table["name"] == TABLE]
         rows = [row for table in tables for row in table["rows"]]

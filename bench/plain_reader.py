@@ -176,7 +176,7 @@ class History:
         return node
 
     def maker(self, path: Path, rev: int) -> tuple[int, int, Peg | None]:
-        """How long the path is that the last record names which made this one, its revision, and its source."""
+        """Return how long the path is that the last record names which made this one, its revision, and its source."""
         end = self.ends[rev]
         best = depth = 0
         for length in range(len(path) + 1):
@@ -281,7 +281,7 @@ def effective(history: History, path: Path, rev: int) -> Value:
 
 
 def kind_in(runs: Sequence[Run], rev: int) -> bool | None:
-    """Whether a revision is inheritable, or None if it is in none of these runs."""
+    """Return whether a revision is inheritable, or None if it is in none of these runs."""
     place = bisect_right(runs, (rev, GREATEST_REVISION, True)) - 1
     return runs[place][2] if place >= 0 and rev <= runs[place][1] else None
 

@@ -36,7 +36,7 @@ def seconds_of(asked: Asked, lines: list[str]) -> float:
 
 
 def same_answers(verb: str, ours: Sequence[Answer], others: Sequence[list[str]]) -> int:
-    """How many answers are the same. Those of the bindings to `log` have revisions alone."""
+    """Return how many answers are the same. Those of the bindings to `log` have revisions alone."""
     found = [[line.split(" ")[0] for line in lines] if verb == "log" else lines for _, lines in ours]
     return sum(lines == other for lines, other in zip(found, others))
 

@@ -20,7 +20,7 @@ TEN = ("log", "log", "segments", "segments", "locate", "locate", "mergeinfo", "m
 
 
 class Record(NamedTuple):
-    """What a revision did to a path, and the size of the mergeinfo that it gave it, if any."""
+    """A change of a path by a revision, and the size of the mergeinfo that it gave it, if any."""
 
     path: str
     rev: int
@@ -141,7 +141,7 @@ class Asked:
         return self.best([])
 
     def cost(self, lines: Sequence[str]) -> Cost:
-        """Of a run with these queries, less one without any."""
+        """Return the cost of a run with these queries, less that of one without any."""
         base, taken = self.base, self.best(lines)
         return Cost((taken.wall - base.wall) / len(lines), taken.outcome.output.count(b"\n") - len(lines))
 

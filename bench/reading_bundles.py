@@ -53,7 +53,7 @@ READERS_HEADING = (
 
 
 def commands(program: Path, path: Path) -> dict[str, Command]:
-    """What is measured on a file."""
+    """Return what is measured on a file."""
     feeder: Words = ["cat", path]
     loading_alone: Words = ["sh", "-c", 'printf x; exec cat "$1"', "sh", path]
     return {

@@ -102,7 +102,7 @@ class OfBindings(NamedTuple):
 
 
 def ask_bindings(repository: Repository | None, lines: Sequence[str]) -> OfBindings | None:
-    """What the bindings answer to queries of one verb, or None without a repository or bindings."""
+    """Return what the bindings answer to queries of one verb, or None without a repository or bindings."""
     if repository is None or not BINDINGS.exists():
         return None
     done = run([BINDINGS, "-m", READER, repository.url], "".join(lines).encode(), folder=ROOT, limits=Limits(3600))

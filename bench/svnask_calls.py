@@ -92,8 +92,8 @@ class Taken(NamedTuple):
 
 
 def taken_in_turns(setup: Setup, pair: Mapping[str, Callable[[], Words]]) -> dict[str, Taken]:
-    """What commands take that run in turns. What they need is made before each run. What the program prints alone is
-    not kept: `grep` would stop at its first line if it printed to /dev/null."""
+    """Return what commands take that run in turns. What they need is made before each run. What the program prints
+    alone is not kept: `grep` would stop at its first line if it printed to /dev/null."""
 
     def once(name: str) -> Measured:
         return Command(pair[name]()).run(is_kept=name not in (ALONE, MANY))
@@ -106,7 +106,7 @@ def taken_in_turns(setup: Setup, pair: Mapping[str, Callable[[], Words]]) -> dic
 
 
 def rows_of(taken: Mapping[str, Taken]) -> Iterator[Row]:
-    """What each command takes, and the limits of the last of two."""
+    """Yield a row for each command, with the limits of the last of two."""
     judged = {
         FIRST: MOST_OF_GREP.of(taken[FIRST].processor / taken[GREP].processor),
         LATER: MOST_OF_PROGRAM.of((taken[LATER].processor - MORE) / taken[ALONE].processor),

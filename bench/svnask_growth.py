@@ -71,7 +71,7 @@ def questions(queries: Path) -> Iterator[list[str]]:
 
 
 class Asked(NamedTuple):
-    """What some words take about a dump. There may be no answer."""
+    """A dump, and the means to measure a question about it. There may be no answer."""
 
     setup: Setup
     dump: Path
@@ -86,7 +86,7 @@ class Asked(NamedTuple):
 
 
 class Found(NamedTuple):
-    """What a verb takes about a shape in its size and in twice that."""
+    """The cost of a verb about a shape in its size and in twice that."""
 
     verb: str
     once: Measured
@@ -98,7 +98,7 @@ class Found(NamedTuple):
 
 
 def measured(setup: Setup, shape: Callable[[int], bytes], size: int) -> Iterator[Found]:
-    """What each verb takes about a shape."""
+    """Yield the cost of each verb about a shape."""
     queries = setup.folder / "queries"
     queries.write_bytes(b"log\ttrunk@2\n")
     asked = []

@@ -60,7 +60,7 @@ class Asked:
 
 
 def rows_of(asked: Asked, name: str, source: str) -> list[Row]:
-    """What is measured of a source."""
+    """Return what is measured of a source."""
     first: dict[str, Callable[[], Measured]] = {
         DUMP: partial(Command(asked.dumped(source)).run, is_kept=False),
         FIRST: partial(asked.first, source),

@@ -20,7 +20,7 @@ from dev.running import peak_of
 
 
 class Kind(NamedTuple):
-    """How the program is run. Of the runs with one number of workers the best counts."""
+    """A way to run the program. Of the runs with one number of workers the best counts."""
 
     workers: int
     block: int

@@ -57,12 +57,12 @@ def block(lines: Iterable[bytes], properties: bytes | None = None, text: bytes |
 
 
 def first_lines(form: int = 2, uuid: bytes | None = None) -> bytes:
-    """What stands before the revisions."""
+    """Return what stands before the revisions."""
     return b"SVN-fs-dump-format-version: %d\n\n" % form + (b"" if uuid is None else block([b"UUID: " + uuid]))
 
 
 class Source(NamedTuple):
-    """What a copy is one of."""
+    """The source of a copy."""
 
     path: bytes
     revision: int

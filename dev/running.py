@@ -23,7 +23,7 @@ STARTER = Path(__file__).with_name("starter.py")
 
 
 class Outcome(NamedTuple):
-    """How a run ended: its exit status, None if it had to be killed, and what it printed."""
+    """The end of a run: its exit status, None if it had to be killed, and what it printed."""
 
     status: int | None
     output: bytes
@@ -35,7 +35,7 @@ class Outcome(NamedTuple):
 
 @dataclass(frozen=True)
 class Limits:
-    """What a run may take: seconds, and bytes of address space."""
+    """The limits of a run: seconds, and bytes of address space."""
 
     seconds: float = SECONDS
     memory: int | None = None
@@ -103,7 +103,7 @@ class Measured(NamedTuple):
 
 
 def fed_by(feeder: Words, processes: ExitStack) -> IO[bytes] | None:
-    """What a command prints, which runs until the end of the processes."""
+    """Return what a command prints, which runs until the end of the processes."""
     return processes.enter_context(subprocess.Popen(feeder, stdout=subprocess.PIPE)).stdout
 
 

@@ -21,7 +21,7 @@ class Programs(NamedTuple):
 
 
 def built(crate: str) -> Path:
-    """Where a build leaves the program of a crate."""
+    """Return where a build leaves the program of a crate."""
     return CRATES / crate / "out" / crate
 
 

@@ -51,7 +51,7 @@ def shown(lines: list[bytes] | None) -> str:
 
 
 class Compared(NamedTuple):
-    """What came of a dump: how many queries were asked and how many answers differ, how many ways gave another report,
+    """The result for a dump: how many queries were asked, how many answers differ, how many ways gave another report,
     and what is wrong, in words."""
 
     queries: int

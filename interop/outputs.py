@@ -47,7 +47,7 @@ def write(path: Path, outputs: Sequence[Output]) -> None:
 
 
 def run(url: str, arguments: list[str]) -> Output:
-    """What `svn` prints, with a URL in place of each target."""
+    """Return what `svn` prints, with a URL in place of each target."""
     done = running.run(["svn", *(as_url(url, word) for word in arguments)], environment=ENVIRONMENT)
     if done.status != 0:
         found = ERROR.search(done.errors)

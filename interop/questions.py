@@ -22,7 +22,7 @@ OF_LOCATE, OF_OTHERS, OF_RANGES = (2, 1, 1), (2, 2), (2, 1, 1, 0)
 
 
 class Wanted(NamedTuple):
-    """How many queries of a repository are kept, as `interop/record --help` says, and which."""
+    """The number of queries of a repository that are kept, as `interop/record --help` says, and their kind."""
 
     most: int
     pairs: int

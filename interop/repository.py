@@ -187,7 +187,7 @@ class Repository:
         return self.tools.run("svn", "mergeinfo", *words).decode().split()
 
     def _is_malformed(self, place: Place) -> bool:
-        """Whether the text of svn:mergeinfo that holds for a path is malformed. Subversion answers as if there were
-        none."""
+        """Return whether the text of svn:mergeinfo that holds for a path is malformed. Subversion answers as if there
+        were none."""
         text = self.opened.nearest_mergeinfo(*place)
         return text is not None and bindings.parsed(text) is None

@@ -9,14 +9,14 @@ from interop.repository import Pair, Place, Repository, path_in
 
 
 def segments_differ(repository: Repository, place: Place) -> bool:
-    """Whether two adjacent segments have the same path, which svnhist joins."""
+    """Return whether two adjacent segments have the same path, which svnhist joins."""
     segments = repository.history(place).segments
     return any(segment.path == older.path for segment, older in zip(segments, segments[1:]))
 
 
 def log_differs(repository: Repository, place: Place, some: Sequence[int] | None = None) -> bool:
-    """Whether there is a revision of the log, or one of some, that svnhist leaves out: it changed neither the path nor
-    anything below it, and the path was the same one before it."""
+    """Return whether there is a revision of the log, or one of some, that svnhist leaves out: it changed neither the
+    path nor anything below it, and the path was the same one before it."""
     _, segments, revisions = repository.history(place)
     for rev in revisions if some is None else some:
         path = path_in(segments, rev)
@@ -27,7 +27,7 @@ def log_differs(repository: Repository, place: Place, some: Sequence[int] | None
 
 
 def merges_differ(repository: Repository, verb: str, pair: Pair, merges: Sequence[Merge]) -> bool:
-    """Whether svnhist answers otherwise about merged or eligible revisions.
+    """Return whether svnhist answers otherwise about merged or eligible revisions.
 
     Subversion takes a malformed text for none, and it looks at the source of merged revisions only if the target has
     mergeinfo. Its eligible revisions include those that are merged but not inheritable. For both verbs a revision

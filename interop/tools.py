@@ -25,7 +25,7 @@ class Tools:
         return run(line, given, limits=Limits(seconds), environment=ENVIRONMENT, folder=folder)
 
     def run(self, command: str, *words: Word, given: bytes = b"", folder: Path | None = None) -> bytes:
-        """What a command prints, which must succeed."""
+        """Return what a command prints, which must succeed."""
         done = self.try_run(command, *words, given=given, folder=folder)
         if done.status != 0:
             raise Failed(" ".join(map(str, (command, *words))) + "\n" + said_by(done))

@@ -40,7 +40,7 @@ class Found(NamedTuple):
 
     @property
     def runs(self) -> int:
-        """How many seeds were judged."""
+        """Return how many seeds were judged."""
         return sum(count for (group, _), count in self.counts.items() if group == RUNS)
 
 
@@ -49,7 +49,7 @@ Judge = Callable[[Path, Path, int], Found]
 
 
 class Comparison(NamedTuple):
-    """What a command does: its name, what it compares and how, and how most runs end, in words."""
+    """A command that compares: its name, what it compares and how, and how most runs end, in words."""
 
     name: str
     description: str
@@ -70,7 +70,7 @@ def keep(folder: Path, seed: int, files: Mapping[str, bytes]) -> dict[str, Path]
 
 
 def found_of(folder: Path, seed: int, runs: Iterable[Run], counted: Iterable[Counted]) -> Found:
-    """What is found of a seed. The files and both outcomes of the first run that differs are kept."""
+    """Return what is found of a seed. The files and both outcomes of the first run that differs are kept."""
     counts = Counter(counted)
     for run in runs:
         if run.wanted != run.found:
@@ -83,13 +83,13 @@ def found_of(folder: Path, seed: int, runs: Iterable[Run], counted: Iterable[Cou
 
 
 def compare(judge: Judge, program: Path, folder: Path, seeds: range, jobs: int | None = None) -> Iterator[Found]:
-    """What is found of each seed."""
+    """Yield the result for each seed."""
     with multiprocessing.Pool(jobs) as pool:
         yield from pool.imap_unordered(functools.partial(judge, program, folder), seeds, PORTION)
 
 
 def print_counts(counts: Counter[Counted]) -> None:
-    """How the runs ended, and the answers to each verb."""
+    """Print how the runs ended, and the answers to each verb."""
     for group in sorted({group for group, _ in counts}):
         shapes = Counter({shape: count for (each, shape), count in counts.items() if each == group})
         total = sum(shapes.values())

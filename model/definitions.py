@@ -43,7 +43,7 @@ class Place(NamedTuple):
 
 
 class Record(NamedTuple):
-    """What the headers and the property section of a block say. A property that is deleted has the value None."""
+    """The headers and the property section of a block. A property that is deleted has the value None."""
 
     path: Path
     action: bytes
@@ -53,7 +53,7 @@ class Record(NamedTuple):
 
 
 class Entry(NamedTuple):
-    """What a tree has at a path, with the text of its mergeinfo."""
+    """An entry of a tree, with the text of its mergeinfo."""
 
     kind: bytes | None
     origin: Place | None
@@ -198,7 +198,8 @@ def piece_of(section: bytes, at: int, letter: bytes) -> tuple[bytes, int]:
 
 
 def properties_of(section: bytes, changes: bool) -> dict[bytes, bytes | None]:
-    """What the last entry of each name says in a property section. A whole list deletes what it does not name."""
+    """Return what the last entry of each name says in a property section. A whole list deletes what it does not
+    name."""
     properties: dict[bytes, bytes | None] = {MERGEINFO: None} if section and not changes else {}
     at = 0
     while section and section[at:] != b"PROPS-END\n":
@@ -219,7 +220,7 @@ def source_of(headers: Headers) -> Place | None:
 
 
 def is_bad_record(headers: Headers, revisions: int) -> bool:
-    """Whether reason 7 applies to a record that has a number of revisions before it."""
+    """Return whether reason 7 applies to a record that has a number of revisions before it."""
     action = headers.get(b"Node-action")
     if revisions == 0 or action not in (b"add", b"replace", b"delete", b"change"):
         return True
@@ -362,7 +363,7 @@ def run_of(element: bytes) -> Run:
 
 
 def clash(one: Run, other: Run) -> bool:
-    """Whether two runs give a revision both ways."""
+    """Return whether two runs give a revision both ways."""
     return one.inheritable != other.inheritable and one.low <= other.high and other.low <= one.high
 
 
@@ -502,7 +503,7 @@ def mergeinfo(history: History, peg: Place) -> Lines:
 
 
 def kind_in(runs: list[Run], rev: int) -> bool | None:
-    """Whether a revision of a rangelist is inheritable; None if the rangelist does not have it."""
+    """Return whether a revision of a rangelist is inheritable; None if the rangelist does not have it."""
     kinds = [run.inheritable for run in runs if run.low <= rev <= run.high]
     return kinds[0] if kinds else None
 

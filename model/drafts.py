@@ -27,7 +27,7 @@ class Block:
 
 
 def has_line(lines: Iterable[bytes], name: bytes) -> bool:
-    """Whether one of the header lines has the name."""
+    """Return whether one of the header lines has the name."""
     return any(line.startswith(name + b":") for line in lines)
 
 

@@ -44,7 +44,7 @@ def by_model(bundle: bytes) -> tuple[list[Lines], Outcome]:
 
 
 def ended(words: Words, given: Iterable[bytes] = ()) -> Outcome:
-    """How a command ended whose input came in these pieces."""
+    """Return how a command ended whose input came in these pieces."""
     return dialogue.run(words, [Step(piece) for piece in given], SECONDS)
 
 

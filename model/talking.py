@@ -48,7 +48,7 @@ def drawn_way(lot: random.Random, drawn: DrawnTalk) -> str:
 
 
 def cuts_of(lot: random.Random, way: str, drawn: DrawnTalk, talk: Talk) -> list[int]:
-    """Where the input is cut; the last cut is its end."""
+    """Return where the input is cut; the last cut is its end."""
     size = len(drawn.given)
     if way == "at once":
         return [size]
@@ -88,7 +88,7 @@ def steps_at(drawn: DrawnTalk, talk: Talk, cuts: list[int], waits: list[int]) ->
 
 
 def ending_of(talk: Talk) -> str:
-    """How a talk ended, in words: with its input, or with a reason against its dump or a piece."""
+    """Return how a talk ended, in words: with its input, or with a reason against its dump or a piece."""
     reason = REASON.fullmatch(talk.line)
     if not reason:
         return talk.line or WHOLE

@@ -18,14 +18,14 @@ CUT = "standard input ends within a turn"
 
 
 class Said(NamedTuple):
-    """What is said, and how many bytes of the input had come by then."""
+    """A saying, and how many bytes of the input had come by then."""
 
     at: int
     text: bytes
 
 
 class Talk(NamedTuple):
-    """What is said in a talk, and its exit status and its line on standard error, without the name of the program."""
+    """The sayings of a talk, its exit status and its line on standard error, without the name of the program."""
 
     said: list[Said]
     status: int
@@ -33,7 +33,7 @@ class Talk(NamedTuple):
 
 
 def piece_size(line: bytes) -> int | None:
-    """How many bytes of a piece follow a line, or None if it is a query."""
+    """Return how many bytes of a piece follow a line, or None if it is a query."""
     word, space, digits = line.partition(b" ")
     return definitions.number_of(digits, definitions.GREATEST_LENGTH) if word + space == b"piece " else None
 
@@ -44,7 +44,7 @@ def ready(history: History) -> bytes:
 
 
 def may_change(front: bytes, number: int, at: int) -> bool:
-    """Whether a reason against these bytes may be none, or another one, if more of the dump follows them."""
+    """Return whether a reason against these bytes may be none, or another one, if more of the dump follows them."""
     if number == 1:
         return definitions.FIRST_NAME.startswith(front)
     if number == 4:
@@ -64,7 +64,7 @@ def raise_decided(front: bytes) -> None:
 
 
 def replies(dump: bytes, given: bytes) -> Iterator[Said]:
-    """What is said, one after another, until there is a reason to end."""
+    """Yield the sayings, one after another, until there is a reason to end."""
     history = definitions.history_of(dump)
     yield Said(0, ready(history))
     at = count = 0
@@ -101,6 +101,6 @@ def talk_of(dump: bytes, given: bytes) -> Talk:
 
 
 def is_over(dump: bytes, given: bytes) -> bool:
-    """Whether a talk ends with these bytes of its input, whatever follows them."""
+    """Return whether a talk ends with these bytes of its input, whatever follows them."""
     talk = talk_of(dump, given)
     return talk.status != 0 and talk.line != CUT

@@ -33,7 +33,7 @@ class File(NamedTuple):
 
 
 class Parts(NamedTuple):
-    """What a release is made of beside the sources: the programs, and the licences of what is linked into them, both by
+    """The parts of a release beside the sources: the programs, and the licences of what is linked into them, both by
     their names."""
 
     programs: dict[str, bytes]

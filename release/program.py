@@ -53,7 +53,7 @@ def content(path: Path) -> bytes:
 
 
 def printed(words: Words) -> str:
-    """What a command prints, which must not fail."""
+    """Return what a command prints, which must not fail."""
     done = run(words, folder=ROOT, limits=LIMITS)
     text = (done.output + done.errors).decode("utf-8", "replace").strip()
     if done.status != 0:
@@ -71,7 +71,7 @@ def archives() -> list[Path]:
 
 
 def is_of_object(program: Program) -> bool:
-    """Whether the object is there, and linked as `rt` links it gives the built program."""
+    """Return whether the object is there, and linked as `rt` links it gives the built program."""
     if not program.object_file().exists():
         return False
     with tempfile.TemporaryDirectory(prefix="svnhist-link-") as folder:
@@ -82,7 +82,7 @@ def is_of_object(program: Program) -> bool:
 
 
 def make_object(program: Program) -> None:
-    """Has the launcher build the program once more where its object is not kept."""
+    """Build the program once more where its object is not kept."""
     if is_of_object(program):
         return
     program.made_from().unlink()
@@ -159,7 +159,7 @@ def relink_lines(program: Program) -> list[str]:
 
 
 def of_relink(parts: Parts) -> list[File]:
-    """What links the programs anew, with another version of the GNU C library, too."""
+    """Return what links the programs anew, with another version of the GNU C library, too."""
     words = {
         "VERSION": version(),
         "GLIBC": f"libc6-dev {version_of('libc6-dev')}",

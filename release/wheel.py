@@ -24,7 +24,7 @@ COMMANDS = re.compile(r"^\[project\.scripts\]\n((?:.+\n)+)", re.MULTILINE)
 
 
 def title() -> str:
-    """How the folders of the wheel begin."""
+    """Return how the folders of the wheel begin."""
     return f"{NAME}-{version()}"
 
 
@@ -45,7 +45,7 @@ def metadata(parts: Parts) -> bytes:
 
 
 def form() -> bytes:
-    """Of which form the wheel is, and for which systems."""
+    """Return the form of the wheel, and the systems that it is for."""
     tags = "".join(f"Tag: py3-none-{platform}\n" for platform in PLATFORMS)
     head = f"Wheel-Version: 1.0\nGenerator: {NAME} ({version()})\nRoot-Is-Purelib: false\n"
     return (head + tags).encode("ascii")

@@ -80,7 +80,7 @@ MOST_OF_A_TALK = 1500
 
 
 class Wrong(Exception):
-    """What is not as it should be, in words."""
+    """A fault, in words."""
 
 
 OUT_OF_MEMORY = Outcome(4, b"", b"svnhist: out of memory\n")
@@ -90,7 +90,7 @@ STARTS = {"REFUSE_THREAD": "start %d of a thread", "REFUSE_THREADS_FROM": "all s
 
 
 class Subject(NamedTuple):
-    """What is run again and again: its command, the file for standard input, whether it is a test, of which only growths
+    """A command that is run again and again: its file for standard input, whether it is a test, of which only growths
     between marks count and which must pass, and whether it may have sent the first replies of a talk when memory ran
     out."""
 
@@ -126,7 +126,7 @@ class Sweep:
             raise Wrong(f"{subject.name}, nothing refused: {self.wanted.shown()}")
 
     def refuse(self, number: int) -> bool:
-        """Whether there was such a call to refuse."""
+        """Return whether there was such a call to refuse."""
         told = self.folder / f"refused-{threading.get_ident()}"
         settings = {"REFUSED_FILE": str(told), "REFUSE_MARKED": str(int(self.subject.is_marked))}
         found = self.subject.run({**object_in(self.folder), **settings, self.setting: str(number)})
@@ -141,14 +141,16 @@ class Sweep:
         return was_refused
 
     def is_failure(self, found: Outcome) -> bool:
-        """Whether a run ended as it may where a growth is refused. Each reply of a talk ends with an empty line."""
+        """Return whether a run ended as it may where a growth is refused. Each reply of a talk ends with an empty
+        line."""
         sent = found.output
         if self.subject.is_talk and self.wanted.output.startswith(sent) and (b"\n" + sent).endswith(b"\n\n"):
             found = found._replace(output=b"")
         return found == OUT_OF_MEMORY
 
     def count(self, pool: ThreadPoolExecutor) -> int:
-        """How many runs had a call to refuse, number by number from 1 on. Two in a row without one end the sweep."""
+        """Return how many runs had a call to refuse, number by number from 1 on. Two in a row without one end the
+        sweep."""
         portions = (pool.map(self.refuse, range(first, first + PORTION)) for first in itertools.count(1, PORTION))
         total, had_any = 0, True
         for has_any in itertools.chain.from_iterable(portions):
@@ -161,7 +163,7 @@ class Sweep:
 
 
 def object_in(folder: Path) -> dict[str, str]:
-    """What has a program load the object of a folder."""
+    """Return what has a program load the object of a folder."""
     return {"LD_PRELOAD": str(folder / OBJECT)}
 
 
@@ -213,7 +215,8 @@ def talk_subject(live: Path, folder: Path, name: str, talk: drawn_talks.DrawnTal
 
 
 def is_swept(talk: drawn_talks.DrawnTalk) -> bool:
-    """Whether a talk is short, goes on to the end of its input, and has two pieces and two answers with lines."""
+    """Return whether a talk is short, goes on to the end of its input, and has two pieces and two answers with
+    lines."""
     if len(talk.dump) + len(talk.given) > MOST_OF_A_TALK:
         return False
     said, status, _ = turns.talk_of(talk.dump, talk.given)
@@ -251,7 +254,7 @@ def tests_of_crates() -> list[Subject]:
 
 
 def count(folder: Path, pool: ThreadPoolExecutor, subjects: Sequence[Subject], settings: Iterable[str]) -> int:
-    """How many runs had a call to refuse."""
+    """Return how many runs had a call to refuse."""
     return sum(Sweep(subject, each, folder).count(pool) for subject in subjects for each in settings)
 
 
@@ -263,7 +266,7 @@ def judge_one_worker(program: Path, folder: Path) -> None:
 
 
 def growths_of(program: Path, folder: Path, workers: int, queries: int, lines: int) -> int:
-    """How many growths a run has that asks so often for the mergeinfo of so many lines."""
+    """Return how many growths a run has that asks so often for the mergeinfo of so many lines."""
     text = b"".join(b"/a%d:1\n" % number for number in range(lines))
     asked = b"0 %d %d\n" % (workers, queries) + b"mergeinfo\tt@1\n" * queries
     counted = folder / "growths"
@@ -291,7 +294,7 @@ def judge_reads(program: Path, folder: Path) -> None:
 
 
 def sweep_talks(live: Path, folder: Path, pool: ThreadPoolExecutor) -> str:
-    """What was refused in talks, in words."""
+    """Return what was refused in talks, in words."""
     if not os.access(live, os.X_OK):
         return f"none in talks, as there is no program {live}"
     growths = count(folder, pool, drawn_subjects(live, folder), GROWTHS)
@@ -300,7 +303,7 @@ def sweep_talks(live: Path, folder: Path, pool: ThreadPoolExecutor) -> str:
 
 
 def sweep_all(program: Path, live: Path, folder: Path) -> str:
-    """What was refused, in words."""
+    """Return what was refused, in words."""
     make_object(folder)
     # One worker grows memory in one order, so that each growth is refused once.
     alone = program_on_bundle(program, folder, "one worker", 1, QUERIES * TIMES)

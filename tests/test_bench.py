@@ -130,7 +130,7 @@ class JsonTest(unittest.TestCase):
 
 
 def report_of(*items: Table | str, is_quick: bool = False) -> dict[str, Any]:
-    """What a run writes of a part that measured this."""
+    """Return what a run writes of a part that measured this."""
     given = {"version": "1.2.3", "times": 5, "is_quick": is_quick, "date": "2024-01-31", "machine": machine()}
     return {**given, "parts": [{**part_to_json(PARTS[0], items), "seconds": 90.0}]}
 
@@ -140,7 +140,7 @@ def marked(name: str, between: str) -> str:
 
 
 class Written(NamedTuple):
-    """How a command of the benchmarks ended that wrote a file, and the file then."""
+    """The end of a command of the benchmarks that wrote a file, and the file then."""
 
     outcome: Outcome
     text: str

@@ -66,7 +66,7 @@ class Note(NamedTuple):
 
 
 def read_crates(path: Path) -> dict[str, list[str]]:
-    """Of each crate of crates.txt the crates of this file that it names."""
+    """Map each crate of crates.txt to the crates of this file that it names."""
     lines = [line.split("#")[0].partition(":") for line in path.read_text("utf-8").splitlines()]
     words = {head.split()[0]: libraries.split() for head, colon, libraries in lines if colon}
     return {crate: [name for name in libraries if name in words] for crate, libraries in words.items()}
@@ -120,7 +120,7 @@ class Tree:
         path.write_text(path.read_text("utf-8").replace("/opt/rattle", str(self.folder / "missing")), "utf-8")
 
     def forget_build(self, crate: str) -> None:
-        """Has the next call build the crate and those above it."""
+        """Forget the build of the crate and of those above it."""
         append(self.file_of(crate), "\n")
 
     def noted(self) -> list[Note]:
@@ -212,7 +212,7 @@ class Launcher:
 
 
 def end_of(process: subprocess.Popen[bytes]) -> Outcome:
-    """How a call ends."""
+    """Return how a call ends."""
     try:
         output, errors = process.communicate(timeout=LIMIT)
     except subprocess.TimeoutExpired:
@@ -222,7 +222,8 @@ def end_of(process: subprocess.Popen[bytes]) -> Outcome:
 
 
 def is_running(group: int) -> bool:
-    """Whether a process of the group of a call of `rt` runs. One that has just been killed may still be there."""
+    """Return whether a process of the group of a call of `rt` runs. One that has just been killed may still be
+    there."""
     for _ in range(50):
         try:
             os.killpg(group, 0)
@@ -234,7 +235,7 @@ def is_running(group: int) -> bool:
 
 @contextlib.contextmanager
 def signals(are_ignored: bool) -> Iterator[None]:
-    """Has what is started meanwhile ignore hang-ups and interrupts, or else end at them and at SIGTERM, whether or not
+    """Let what is started meanwhile ignore hang-ups and interrupts, or else end at them and at SIGTERM, whether or not
     the caller of the tests ignores them."""
     ending = [signal.SIGHUP, signal.SIGINT] + ([] if are_ignored else [signal.SIGTERM])
     before = {number: signal.signal(number, signal.SIG_IGN if are_ignored else pass_over) for number in ending}
@@ -540,7 +541,7 @@ class LaterCalls(LauncherTest):
         self.works("the same program after both", self.live, lines_for(["svnhist_live"]))
 
     def check_without_build(self, launcher: Launcher, refused: Iterator[Refused]) -> None:
-        """What is judged before a build."""
+        """Check what is judged before a build."""
         for words, status, errors in refused:
             self.fits(f"{launcher.name} {words}"[:100], launcher.call(words), status, "", errors)
         for word in ("--help", "-h"):

@@ -42,7 +42,7 @@ def with_message(number: int, text: bytes, length: int) -> bytes:
 
 
 class Mistake(NamedTuple):
-    """What is given as DUMP, and its refusal."""
+    """An input given as DUMP, and its refusal."""
 
     name: str
     dump: bytes

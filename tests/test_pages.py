@@ -64,7 +64,7 @@ def words() -> set[str]:
 
 
 def stands(name: str) -> bool:
-    """Whether the sources have what a page names, where it is a name of theirs by its form."""
+    """Return whether the sources have what a page names, where it is a name of theirs by its form."""
     if FILE.match(name):
         return any(f"/{path}".endswith("/" + name.lstrip("./")) for path in files())
     if NAME.match(name) and MANY_WORDS.search(name) and not OF_SUBVERSION.match(name):
@@ -73,7 +73,7 @@ def stands(name: str) -> bool:
 
 
 def anchor(heading: str) -> str:
-    """What a link names a heading by."""
+    """Return what a link names a heading by."""
     return re.sub(r"[^\w -]", "", heading.lower()).replace(" ", "-")
 
 

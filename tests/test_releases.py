@@ -72,7 +72,7 @@ def without_git() -> dict[str, Optional[str]]:
 
 
 def done(words: list[str], folder: Path | None = None) -> bytes:
-    """What a command prints, which must not fail."""
+    """Return what a command prints, which must not fail."""
     found = run(words, folder=folder, environment=without_git())
     if found.status != 0:
         raise AssertionError(f"{words}: {found.shown()}")
@@ -119,7 +119,7 @@ class Packages(ProgramTest):
         return package(of_package(parts_of(self.programs), CHANGELOG), BUILT_USING, WHEN)
 
     def run_installed(self, *words: str) -> Outcome:
-        """What a program of the package prints about the first dump of the README."""
+        """Return what a program of the package prints about the first dump of the README."""
         usr = self.root / "usr"
         variables = {
             "PATH": f"{usr / 'bin'}{os.pathsep}{os.environ.get('PATH', os.defpath)}",
@@ -132,7 +132,7 @@ class Packages(ProgramTest):
         return run(words, b"log\ttrunk@10\n", environment=variables, folder=usr / "share" / "doc" / "svnhist")
 
     def version_in(self, name: str) -> str:
-        """What a manual page has for a version."""
+        """Return what a manual page has for a version."""
         with gzip.open(self.root / "usr" / "share" / "man" / "man1" / f"{name}.gz", "rt", encoding="utf-8") as file:
             return "".join(re.findall(r'^\.TH .* "(svnhist \S+)"', file.read(), re.MULTILINE))
 
@@ -256,7 +256,7 @@ class Wheels(ProgramTest):
 
 
 class Refusals(ProgramTest):
-    """What `scripts/release` says of a tree that `./test` did not pass on, of other programs, and of changes."""
+    """The refusals of `scripts/release`: a tree that `./test` did not pass on, other programs, and changes."""
 
     needed = ("svnhist", "svnhist_live")
 
@@ -278,7 +278,7 @@ class Refusals(ProgramTest):
         self.compare(name, Outcome(1, b"", f"release: {line}\n".encode()), found)
 
     def sums(self) -> dict[Program, str]:
-        """What `sha256sum` prints of each program."""
+        """Return what `sha256sum` prints of each program."""
         paths = [f"crates/{program.crate}/out/{program.crate}" for program in PROGRAMS]
         return dict(zip(PROGRAMS, done(["sha256sum", *paths], self.root).decode().splitlines(keepends=True)))
 

@@ -91,8 +91,8 @@ class ShownCommands(ProgramTest):
     needed = ("svnhist", "svnhist_live")
 
     def environment_of(self, root: Path) -> Environment:
-        """What the commands run with, wherever the tests run: the programs of the root, of which svnask asks one, the
-        commands of the examples, and a home without settings. The pages show dates by UTC."""
+        """Return what the commands run with, wherever the tests run: the programs of the root, of which svnask asks
+        one, the commands of the examples, and a home without settings. The pages show dates by UTC."""
         tools = self.folder / "tools"
         for name, lines in TOOLS.items():
             make_command(tools, name, lines)
@@ -111,7 +111,7 @@ class ShownCommands(ProgramTest):
         }
 
     def output_of(self, line: str, root: Path, environment: Environment) -> str:
-        """What a command prints, on standard error, too."""
+        """Return what a command prints, on standard error, too."""
         words = ["sh", "-c", 'exec sh -c "$1" 2>&1', "sh", line]
         done = run(words, Path(os.devnull), folder=root, environment=environment, limits=LIMITS)
         return (done.output + done.errors).decode("utf-8", "replace")

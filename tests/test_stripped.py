@@ -156,7 +156,7 @@ class Stripped(ProgramTest):
         return [self.programs.svnhist, "/dev/stdin", queries, "0", "1"]
 
     def compared(self, name: str, dump: bytes, queries: Path = NOTHING) -> Check:
-        """What the program prints on the whole dump and on the one without texts."""
+        """Return what the program prints on the whole dump and on the one without texts."""
         smaller = run([STRIP], dump)
         wanted = Outcome(0, b"", b""), run(self.words(queries), dump)
         return Check(name, wanted, (smaller._replace(output=b""), run(self.words(queries), smaller.output)))

@@ -21,7 +21,7 @@ class Failed(Error):
 
 
 class Damaged(Failed):
-    """What is kept of a dump is not as it was made."""
+    """The copy of a dump in the cache is not as it was made."""
 
     def __init__(self) -> None:
         super().__init__("the cache is damaged: --no-cache reads the dump anew")

@@ -19,7 +19,7 @@ def opener(path: str, flags: int) -> int:
 
 
 def flush(path: str) -> None:
-    """Has the disk keep a file, or the names in a folder."""
+    """Flush a file, or the names in a folder, to the disk."""
     descriptor = os.open(path, os.O_RDONLY)
     try:
         os.fsync(descriptor)
@@ -28,7 +28,7 @@ def flush(path: str) -> None:
 
 
 def cache_folder() -> str | None:
-    """Where all folders are, or None where neither the environment nor the system names a place."""
+    """Return where all folders are, or None where neither the environment nor the system names a place."""
     named = os.environ.get("XDG_CACHE_HOME", "")
     base = named if os.path.isabs(named) else os.path.join(os.path.expanduser("~"), ".cache")
     return os.path.join(base, "svnhist") if os.path.isabs(base) else None

@@ -63,7 +63,7 @@ def tops_above(paths: Iterable[bytes]) -> set[bytes]:
 
 
 def moved(path: bytes, top: bytes, source: Place) -> Place:
-    """Where a path came from with a copy of a path at or above it."""
+    """Return where a path came from with a copy of a path at or above it."""
     return joined(source[0], rest_below(path, top)), source[1]
 
 

@@ -35,8 +35,8 @@ class History(OpenHistory):
         return list(questions.holders(self, patterns, rev))
 
     def unmerged(self, into: bytes | None = None, patterns: Sequence[bytes] = ()) -> list[Left]:
-        """What of each branch of today is still to be merged into a path of today, or else into the trunk of its own
-        project, each revision with whether it was merged in part.
+        """Return what of each branch of today is still to be merged into a path of today, or else into the trunk of its
+        own project, each revision with whether it was merged in part.
 
         >>> history.unmerged(b"/trunk", [b"/branches/two"])
         [Left(path=b'/branches/two', revisions=[(9, False), (11, False)])]

@@ -37,7 +37,7 @@ def say(*lines: str) -> None:
 
 
 def drop(stream: IO[str]) -> None:
-    """Has what could not be written not be tried again at the end, where Python would change the status."""
+    """Redirect a stream to /dev/null, so that the flush at exit cannot change the status."""
     with suppress(OSError, ValueError):
         os.dup2(os.open(os.devnull, os.O_WRONLY), stream.fileno())
 

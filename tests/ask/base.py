@@ -80,8 +80,8 @@ def called(*words: Word, **variables: str) -> Done:
 
 @contextlib.contextmanager
 def signals_end() -> Iterator[None]:
-    """Has what is started meanwhile end at a signal, whether or not the caller of the tests ignores it: a handler is
-    not inherited, and a signal that is ignored is."""
+    """Let what is started meanwhile end at a signal, also where the caller of the tests ignores it. A handler is not
+    inherited, and a signal that is ignored is."""
     kept = {number: signal.signal(number, lambda number, frame: None) for number in ENDING}
     try:
         yield
@@ -100,7 +100,7 @@ def wait_for(is_so: Callable[[], object]) -> None:
 
 
 def refusal_of_engine(dump: Path) -> str:
-    """What the engine itself says of a dump."""
+    """Return what the engine itself says of a dump."""
     done = running.run([programs().svnhist, dump, NOTHING, "0", "1"], NOTHING)
     return done.errors.decode().partition("svnhist: ")[2].strip()
 

@@ -60,14 +60,14 @@ class Place(NamedTuple):
 
 
 class Output(NamedTuple):
-    """What a command printed, or the code of its error."""
+    """The output of a command, or the code of its error."""
 
     status: int
     text: bytes
 
 
 class Server(NamedTuple):
-    """Where the repositories of a folder are served, and the options by which they are reached."""
+    """A server of the repositories of a folder: its URL, and the options by which they are reached."""
 
     url: str
     options: tuple[str, ...] = ()
@@ -159,7 +159,7 @@ def diagram(chance: random.Random, place: Place) -> list[str]:
 
 
 def merges(chance: random.Random, place: Place) -> list[str]:
-    """What was merged, as a log. That of the root with all below it is refused."""
+    """Return what was merged, as a log. That of the root with all below it is refused."""
     verb, source, merged = chance.choice(("merged", "eligible")), target(chance, place), target(chance, place)
     options = some(
         chance, recursive=0 if merged.startswith("/@") else 0.3, log=1, verbose=0.5, quiet=0.2, incremental=0.1
@@ -230,7 +230,7 @@ def normal(text: bytes) -> bytes:
 
 
 def output_of(status: int | None, output: bytes, said: str) -> Output:
-    """What a command printed. Where `svn` is ended by a signal, svnask refuses."""
+    """Return what a command printed. Where `svn` is ended by a signal, svnask refuses."""
     found = ERROR.search(said)
     if status is not None and status < 0:
         return Output(1, b"E195002")
@@ -282,7 +282,7 @@ def compare(kind: str, seed: int, place: Place, folder: Path, options: Sequence[
 
 
 def as_served(output: Output) -> Output:
-    """What was printed, without what servers or svnrdump change in messages."""
+    """Return what was printed, without what servers or svnrdump change in messages."""
     text = output.text.replace(b"\r", b"").replace(b"&#13;", b"").replace(b"\x7f", b"?\\127")
     return output._replace(text=text)
 

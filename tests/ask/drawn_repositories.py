@@ -275,7 +275,8 @@ def rangelist(revisions: set[int]) -> bytes:
 
 
 def step_of_features(chance: random.Random, branches: list[Feature], rev: int) -> list[Node]:
-    """What a revision does: it changes a branch, makes a feature or deletes one, or merges all or some of another one."""
+    """Return what a revision does: it changes a branch, makes a feature or deletes one, or merges all or some of
+    another one."""
     branch = chance.choice(branches)
     parent, what = branch.parent, chance.random()
     if what < 0.12 and len(branches) < 7:
@@ -291,7 +292,7 @@ def step_of_features(chance: random.Random, branches: list[Feature], rev: int) -
 
 
 def merge_of_features(chance: random.Random, branches: list[Feature], target: Feature, rev: int) -> list[Node]:
-    """What a revision does that takes all or some of one or more branches in."""
+    """Return what a revision does that takes all or some of one or more branches in."""
     others = [each for each in branches if each is not target and each.first < rev - 1]
     before = target.text()
     for source in chance.sample(others, min(len(others), chance.choice((1, 1, 1, 2, 3)))):

@@ -181,7 +181,7 @@ def drawn(seed: int, folder: Path) -> Drawn:
 
 
 def faults(seed: int, folder: Path) -> list[str]:
-    """What is wrong with what svnask does for a seed. Files are made in the folder."""
+    """Return what is wrong with what svnask does for a seed. Files are made in the folder."""
     found = drawn(seed, folder)
     dump = folder / "dump"
     dump.write_bytes(found.dump)
@@ -194,7 +194,7 @@ def faults(seed: int, folder: Path) -> list[str]:
 
 
 def judged(done: base.Done, verb: str, refusal: str) -> list[str]:
-    """What is wrong with an output, given why svnhist refuses the dump, if it does."""
+    """Return what is wrong with an output, given why svnhist refuses the dump, if it does."""
     wrong = []
     has_found = verb == FINDING and done.status == 1 and bool(done.output)
     if done.status not in (0, 1, 2):

@@ -46,7 +46,7 @@ def need(*commands: str) -> None:
 
 
 def svn(*words: Word, given: bytes | Path = b"") -> Outcome:
-    """What a command of Subversion did, which must not fail."""
+    """Return what a command of Subversion did, which must not fail."""
     done = run(words, given, environment=ENVIRONMENT)
     if done.status != 0:
         raise AssertionError(f"{words}: {done.shown()}")

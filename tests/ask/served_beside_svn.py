@@ -91,7 +91,7 @@ def drawn(seed: int, count: int, url: str, repositories: dict[str, grown.Grown])
 
 
 def difference(words: list[str]) -> str:
-    """How what svnask does with these words differs from what svn does."""
+    """Return how what svnask does with these words differs from what svn does."""
     theirs = run(["svn", *words], environment=grown.ENVIRONMENT)
     ours = base.called(*words)
     expected = CODE.findall(theirs.errors.decode())

@@ -356,7 +356,7 @@ class Terminal:
         os.write(self._terminal, keys.encode())
 
     def shows(self, text: str) -> bool:
-        """Whether it shows a text since the last keys, which it may still have to write."""
+        """Return whether it shows a text since the last keys, which it may still have to write."""
         end = time.monotonic() + PATIENCE
         while text.encode() not in self._read and time.monotonic() < end:
             ready, _, _ = select.select([self._terminal], [], [], 0.1)
@@ -376,7 +376,7 @@ class Shells(CompletionTest):
         self.variables.update(HOME=str(self.folder), INPUTRC=os.devnull, PS1="> ", LC_ALL="C.UTF-8", COLUMNS="300")
 
     def replies(self, words: Sequence[str], line: str) -> list[str]:
-        """What the function of bash makes of a line, which bash has cut into words."""
+        """Return what the function of bash makes of a line, which bash has cut into words."""
         script = (
             f'source {ROOT}/completions/svnask.bash; COMP_LINE=$1 COMP_POINT=${{#1}} COMP_WORDS=("${{@:2}}"); '
             'COMP_CWORD=$((${#COMP_WORDS[@]} - 1)); _svnask svnask "" ""; printf "%s\\n" "${COMPREPLY[@]}"'
@@ -406,7 +406,7 @@ class Shells(CompletionTest):
             self.compare(typed, wanted, self.replies(words, "svnask " + typed.replace("|", "")))
 
     def check_terminal(self, *words: str, setup: str) -> None:
-        """Has words completed, of which the last one is printed when the line is entered."""
+        """Complete words, the last of which is printed when the line is entered."""
         if shutil.which(words[0]) is None:
             self.skipTest(f"{words[0]} is not installed")
         rows = {

@@ -19,7 +19,7 @@ MOST_TIMES, BESIDE = 3.0, 0.4
 
 class Runs(base.Case):
     def runs(self, *words: str) -> int:
-        """How often a question runs svnhist-live."""
+        """Return how often a question runs svnhist-live."""
         with mock.patch.object(engine, "started", wraps=engine.started) as started:
             done = base.called(DUMP, *words)
         self.assertEqual((done.status, done.said), (0, ""), words)

@@ -535,7 +535,7 @@ class Verb(base.Case):
 
 
 class Fitted(base.Case):
-    """What a picture has no room for is left out."""
+    """Pictures leave out what they have no room for."""
 
     def picture(self, dump: Path, *words: str) -> str:
         done = base.called(dump, "graph", *words)

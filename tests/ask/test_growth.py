@@ -55,7 +55,7 @@ class Case(base.Case):
         return grown.Grown(self.folder / place, base.content_of(name), count)
 
     def asked(self, *words: base.Word) -> bytes:
-        """What a question prints, which has an answer."""
+        """Return what a question prints, which has an answer."""
         done = base.called(*words)
         self.assertEqual((done.status, done.said), (0, ""), words)
         return done.output
@@ -67,7 +67,7 @@ class Case(base.Case):
         )
 
     def check_whole(self, source: base.Word, dump: bytes) -> None:
-        """What is known of a source is what the dump says."""
+        """Check that the cache knows of a source what the dump says."""
         path = self.made("whole.dump", dump)
         self.assertEqual(self.asked(source, "log", "-v"), self.asked(path, "log", "-v", "--no-cache"))
 

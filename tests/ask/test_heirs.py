@@ -38,7 +38,7 @@ class Paths:
         return {query.path for query, answer in zip(queries, self.history.ask(queries)) if answer.path == target.path}
 
     def ended(self, path: bytes, source_rev: int, rev: int) -> bool:
-        """Whether the life of a path that has one revision ended before another one."""
+        """Return whether the life of a path that has one revision ended before another one."""
         return any(life.first <= source_rev <= life.last == rev - 1 for life in self.lives[path])
 
 

@@ -107,7 +107,7 @@ class Layouts(base.Case):
 
 class Tags(base.Case):
     def events(self, *changes: Sequence[Node]) -> list[str]:
-        """What `changed-tags` says of tags: the path, and what happened."""
+        """Return what `changed-tags` says of tags: the path, and what happened."""
         dump = self.made("dump", dump_of([added(b"trunk"), added(b"trunk/f", FILE), added(b"tags")], *changes))
         lines = base.called(dump, "changed-tags").output.decode().splitlines()
         return [line.split("\t")[0] + " " + line.split("\t")[2] for line in lines]

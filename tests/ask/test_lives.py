@@ -57,7 +57,7 @@ class Lives(base.Case):
 
 
 class Branches(base.Case):
-    """What counts as a branch, and what is said of a pattern that matches none."""
+    """The paths that count as branches, and the notice of a pattern that matches none."""
 
     def repository(self) -> Path:
         return self.made(

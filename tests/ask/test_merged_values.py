@@ -56,7 +56,7 @@ def changed(chance: random.Random, lines: list[bytes]) -> list[bytes]:
 
 
 def whole(before: bytes, now: bytes) -> Difference | None:
-    """What both values as a whole say, None where one can't be read."""
+    """Return what both values as a whole say, None where one can't be read."""
     values = Values()
     try:
         return difference(values.whole(before), values.whole(now))

@@ -53,13 +53,13 @@ def places(life: Life) -> list[Place]:
 
 
 def held_in(rev: int, found: list[Gain]) -> set[int]:
-    """What a target had gained in one of its revisions, and not lost."""
+    """Return what a target had gained in one of its revisions, and not lost."""
     held = [gain for gain in found if gain.rev <= rev and (gain.lost is None or gain.lost > rev)]
     return {each for gain in held for each in gain.revisions}
 
 
 def merged(history: History, source: Life, targets: list[Place]) -> list[set[int]]:
-    """What svnhist says was merged from a life into each target, but for what that had in its own history."""
+    """Return what svnhist says was merged from a life into each target, but for what that had in its own history."""
     bounds = source.first, source.last
     merged_of = history.ask([Pair(source.path, source.last, "merged", *target, bounds) for target in targets])
     found = []

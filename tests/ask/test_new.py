@@ -16,7 +16,7 @@ Sets = tuple[set[int], set[int], set[int]]
 
 
 class Plain:
-    """What the trees of a small history say of the revisions that a path has."""
+    """The revisions that a path has, by the trees of a small history."""
 
     def __init__(self, dump: bytes) -> None:
         self.records = plain.records_of(dump)
@@ -29,8 +29,8 @@ class Plain:
                 self.texts[-1].add(plain.parts_of(block.headers[b"Node-path"]))
 
     def is_listed(self, path: plain.Path, rev: int) -> bool:
-        """Whether `svn log` lists a revision of a path: also one that copied it or a path above it to itself, and each
-        one of the root."""
+        """Return whether `svn log` lists a revision of a path: also one that copied it or a path above it to itself,
+        and each one of the root."""
         copied = any(record.source and plain.is_below(path, record.path) for record in self.records[rev])
         return copied or not path or plain.is_operative(self.history, path, rev)
 
@@ -42,7 +42,7 @@ class Plain:
         return any(run.low <= rev <= run.high for run in value.get(source, []))
 
     def is_recorded(self, place: plain.Place, source: plain.Path, rev: int) -> bool:
-        """Whether the revision by which a path has another one merged changed nothing but mergeinfo there."""
+        """Return whether the revision by which a path has another one merged changed nothing but mergeinfo there."""
         trees = self.history.trees
         before = trees[place.revision][place.path].origin
         while before is not None and self.has(before, source, rev):
@@ -81,7 +81,7 @@ class Plain:
         return own, merged, partial
 
     def is_copy_alone(self, rev: int) -> bool:
-        """Whether a revision copies something to each path that it changes, or adds it above a copy."""
+        """Return whether a revision copies something to each path that it changes, or adds it above a copy."""
         actions = {record.path: record.action for record in self.records[rev]}
         copies = {record.path for record in self.records[rev] if record.source}
         return bool(copies) and all(

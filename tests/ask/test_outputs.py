@@ -14,7 +14,7 @@ PROJECTS = INTEROP / "projects.svnask"
 
 
 def output_of(history: History, arguments: list[str]) -> outputs.Output:
-    """What svnask prints, in the form of a recorded output."""
+    """Return what svnask prints, in the form of a recorded output."""
     try:
         words = parser(arguments[0]).parse_args(["DUMP"] + arguments)
         return outputs.Output(arguments, 0, b"".join(answer_lines(history, words)))

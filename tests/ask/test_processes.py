@@ -68,7 +68,7 @@ class Processes(unittest.TestCase):
         self.assertEqual(found, b"".join(text_of(number) * LONG_TEXT for number in PARTS))
 
     def made_where(self, fails: Callable[[], object]) -> bytes:
-        """What is made where other processes fail at one of the parts."""
+        """Return what is made where other processes fail at one of the parts."""
 
         def make(number: int) -> bytes:
             if number == 10 and os.getpid() != self.own:

@@ -72,7 +72,7 @@ class Serve(base.Case):
         return [path.name for path in (self.cache / "svnhist").glob("socket-*")]
 
     def is_asked(self, *words: base.Word) -> bool:
-        """Whether a server replies to a question."""
+        """Return whether a server replies to a question."""
         reply = client.ask_server([os.fspath(word) for word in words])
         if reply is not None:
             os.close(reply.output)

@@ -70,7 +70,7 @@ class Parser(argparse.ArgumentParser):
 
 
 def about_verb(word: str) -> str:
-    """What is said of a word that is no verb."""
+    """Return what is said of a word that is no verb."""
     near = difflib.get_close_matches(word, HELP, 1)
     return f"there is no verb '{word}': " + (f"is '{near[0]}' meant?" if near else "svnask --help lists them")
 
@@ -112,7 +112,7 @@ def parser_of_verb(name: str) -> Parser:
 
 
 def parsed(words: list[str]) -> argparse.Namespace:
-    """What a command line says. `SystemExit` where it is a call for help, which was printed."""
+    """Return what a command line says. `SystemExit` where it is a call for help, which was printed."""
     access, left = split_access(joined_options(words))
     ready = with_source(left, HELP)
     need_source(ready)

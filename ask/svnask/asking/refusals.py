@@ -21,7 +21,7 @@ VERBS = {
 
 
 class Shape(NamedTuple):
-    """How an input begins that is no dump, what it is, and what helps."""
+    """A form of input that is no dump: how it begins, what it is, and what helps."""
 
     front: bytes
     name: str

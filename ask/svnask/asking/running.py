@@ -58,7 +58,7 @@ def answer_lines(history: OpenHistory, given: argparse.Namespace) -> Iterator[by
 
 
 class Stale(Exception):
-    """What the cache has of a dump is refused or damaged, and nothing was printed."""
+    """The cache has a dump that is refused or damaged, and nothing was printed."""
 
 
 def tell(
@@ -114,14 +114,14 @@ class Stopped(BaseException):
 
 
 class Ending(NamedTuple):
-    """How a question ends: a status, and lines for standard error."""
+    """The end of a question: a status, and lines for standard error."""
 
     status: int
     said: list[str]
 
 
 def ending_of(error: Exception) -> Ending:
-    """How a question ends that has no answer, or one that says what is wrong."""
+    """Return how a question ends that has no answer, or one that says what is wrong."""
     if isinstance(error, Unsound):
         return Ending(error.status, [])
     if isinstance(error, Error):

@@ -34,7 +34,7 @@ class Verb:
         """Tells the parser what follows the verb."""
 
     def text(self, history: OpenHistory, given: Namespace) -> Iterator[bytes]:
-        """What is printed, piece after piece."""
+        """Return what is printed, piece after piece."""
         raise NotImplementedError
 
     def objects(self, history: OpenHistory, given: Namespace) -> Iterator[Object]:

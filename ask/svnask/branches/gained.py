@@ -63,7 +63,7 @@ def queries_of_source(tree: Tree, head: int, path: bytes, runs: Iterable[Run]) -
 
 
 def held_by(history: OpenHistory, targets: Sequence[Target]) -> list[HeldRevisions]:
-    """What each of some targets has."""
+    """Return what each of some targets has."""
     answers = history.answers(query for each in targets for query in (Where(*each), Log(*each), Mergeinfo(*each)))
     for target in targets:
         if not answers[Where(*target)].ok:
@@ -96,7 +96,7 @@ def held_of(
 
 
 def is_copy_alone(history: OpenHistory, rev: int) -> bool:
-    """Whether a revision made branches or tags by copies and changed nothing else."""
+    """Return whether a revision made branches or tags by copies and changed nothing else."""
     changes = history.changes(rev)
     copies = [change.path for change in changes if change.source is not None]
     return bool(changes) and all(

@@ -48,7 +48,7 @@ class Candidates:
         return sorted(self._first, key=components)
 
     def may_have_ended(self, path: bytes, rev: int) -> bool:
-        """Whether a revision may have ended what was at a path."""
+        """Return whether a revision may have ended what was at a path."""
         return any((top, rev) in self._ends for top in tops_of(path))
 
     def _add(self, path: bytes, rev: int) -> None:
@@ -77,8 +77,8 @@ def copies_to(segments: Sequence[Segment], peg: int) -> Iterator[tuple[int, Plac
 
 
 def moved_copies(history: OpenHistory, copies: Iterable[tuple[int, Place]]) -> set[tuple[int, Place]]:
-    """Those of some copies whose source ended with them: the path was there until the revision before, and what is
-    there then, if anything, does not come from it."""
+    """Return the copies that are moves. The source of each was there until the revision before, and is not there
+    then."""
     asked = [copy for copy in copies if is_askable(copy[1][0])]
     if not asked:
         return set()

@@ -151,8 +151,8 @@ class Holder(NamedTuple):
 
 
 class HolderQueries(NamedTuple):
-    """What is asked of a branch or a tag that may have a revision: where it was only if `svn log` may list more than
-    svnhist."""
+    """The queries about a branch or a tag that may have a revision. They ask where it was only if `svn log` may list
+    more than svnhist."""
 
     log: Log
     value: Mergeinfo
@@ -209,7 +209,7 @@ def namings(history: OpenHistory, value: dict[bytes, str], changed: set[bytes], 
 
 
 def how_merged(named: Sequence[Naming], recorded: Intervals, rev: int) -> str:
-    """Whether a revision was merged, and if so whether as a whole, or only recorded."""
+    """Return whether a revision was merged, and if so whether as a whole, or only recorded."""
     found = [each.is_whole for each in named if not is_in(recorded.get(each.source, ()), rev)]
     return RECORDED if not found else MERGED if any(found) else IN_PART
 
@@ -222,7 +222,7 @@ class Left(NamedTuple):
 
 
 class Compared(NamedTuple):
-    """What is left of a branch, the target into which it is to be merged, and what svnhist says of the branch."""
+    """The revisions left of a branch, the target into which it is to be merged, and the answers about the branch."""
 
     left: Left
     source: Target
@@ -231,13 +231,13 @@ class Compared(NamedTuple):
 
     @property
     def trace(self) -> log.Trace:
-        """Where the branch was."""
+        """Return where the branch was."""
         return log.Trace(self.answers[Where(*self.source)].segments, self.answers[Log(*self.source)].revisions)
 
 
 def unmerged(history: OpenHistory, patterns: Sequence[bytes], into: Target | None) -> Iterator[Compared]:
-    """What of each branch of today is still to be merged into a target, or into the trunk of its own project:
-    `svn mergeinfo --show-revs eligible`."""
+    """Compare each branch of today with a target, or with the trunk of its own project, as `svn mergeinfo --show-revs
+    eligible` does."""
     explicit = history.explicit
     alive = alive_in(history, lives_of(history, patterns, (projects.BRANCH,)))
     targets = targets_of(history, alive, into)
@@ -254,7 +254,7 @@ def unmerged(history: OpenHistory, patterns: Sequence[bytes], into: Target | Non
 
 
 def recorded_of(history: OpenHistory, compared: Iterable[Compared]) -> Iterator[tuple[Left, list[int]]]:
-    """What is left of branches, and of each the revisions that were only recorded as merged."""
+    """Yield the revisions left of each branch, with those that were only recorded as merged."""
     recorded = Recorded(history)
     for each in compared:
         (of_target,) = recorded.of([each.target])
@@ -307,8 +307,8 @@ def trunk_of_life(history: OpenHistory, life: Life) -> bytes | None:
 
 
 class TagEvent(NamedTuple):
-    """What happened to a tag after it was made. For a tag that was renamed `other` is where it is, for one that was made
-    again what it is a copy of."""
+    """An event in the life of a tag after it was made. `other` is where a renamed tag is, or what a tag made again is a
+    copy of."""
 
     what: str
     rev: int
@@ -341,12 +341,12 @@ def touched(history: OpenHistory, patterns: Sequence[bytes]) -> Iterator[Touched
 
 
 def begin_of(life: Life, before: Life | None) -> list[TagEvent]:
-    """That a tag was made again, unless it goes on as a copy of itself."""
+    """Return the event that a tag was made again, unless it goes on as a copy of itself."""
     return [] if before is None or life.continues(before) else [TagEvent(AGAIN, life.first, life.source)]
 
 
 def end_of(history: OpenHistory, life: Life) -> list[TagEvent]:
-    """How a tag ended, unless it goes on as a copy of itself."""
+    """Return how a tag ended, unless it goes on as a copy of itself."""
     if life.is_alive:
         return []
     end = life.last + 1

@@ -59,21 +59,21 @@ SPECIAL = re.compile(r"[^\w@%+=:,./~^-]")
 
 
 class Word(NamedTuple):
-    """What may stand at the cursor, and what is said of it."""
+    """A word that may stand at the cursor, and its help."""
 
     text: str
     about: str = ""
 
 
 class Candidates(NamedTuple):
-    """What may stand at the cursor, and whether a name of a file may."""
+    """The words that may stand at the cursor. `has_files` adds the names of files."""
 
     words: list[Word]
     has_files: bool = False
 
 
 class StoredCopy(NamedTuple):
-    """What is kept of a source: its folder, the front of its index, the URL of its root, if it has one, and the path
+    """The copy of a source in the cache: its folder, the front of its index, the URL of its root, if any, and the path
     below which plain targets are."""
 
     folder: str
@@ -83,7 +83,7 @@ class StoredCopy(NamedTuple):
 
 
 def stored_copy_of(source: str, access: Sequence[str] = ()) -> StoredCopy | None:
-    """What is kept of the source that a word names, as it is reached by some options."""
+    """Return what is kept of the source that a word names, as it is reached by some options."""
     top = cache_folder()
     if top is None:
         return None
@@ -98,7 +98,7 @@ def stored_copy_of(source: str, access: Sequence[str] = ()) -> StoredCopy | None
 
 
 def place_in(top: str, kind: bytes, name: bytes, root: str = "") -> StoredCopy | None:
-    """What is kept of a source of this kind and this name."""
+    """Return what is kept of a source of this kind and this name."""
     entry = Entry(top, kind, name)
     front = read_front(entry.folder)
     return StoredCopy(entry.folder, front, root) if front is not None and front.kept[:2] == (kind, name) else None
@@ -126,7 +126,7 @@ class Typed(NamedTuple):
 
     @property
     def is_as_svn(self) -> bool:
-        """Whether the verb comes first, and a URL later."""
+        """Return whether the verb comes first, and a URL later."""
         return bool(self.plain) and self.plain[0] in OF_SVN
 
     @property
@@ -136,7 +136,7 @@ class Typed(NamedTuple):
 
     @property
     def arguments(self) -> int:
-        """How many arguments of the verb there are."""
+        """Return how many arguments of the verb there are."""
         return len(self.plain) - (1 if self.is_as_svn else 2)
 
     @property
@@ -178,7 +178,7 @@ def verb_words(names: Iterable[str]) -> list[Word]:
 
 
 def actions_of(verb: str) -> list[argparse.Action]:
-    """What may follow a verb, or stand before one."""
+    """Return what may follow a verb, or stand before one."""
     return parser().actions if not verb else parser_of_verb(verb).actions if verb in HELP else []
 
 
@@ -201,13 +201,13 @@ def options(verb: str) -> Iterator[Word]:
 
 
 class Completion:
-    """What may stand at the cursor. Branches and tags are looked for until a time of the clock of `time.monotonic`."""
+    """The search for words. Branches and tags are looked for until a time of `time.monotonic`."""
 
     def __init__(self, until: float) -> None:
         self._until = until
 
     def found(self, words: Sequence[str], part: str) -> Candidates:
-        """What may stand after words, where a part of a word stands."""
+        """Return what may stand after words, where a part of a word stands."""
         typed = typed_of(words)
         name, sign, value = part.partition("=")
         if typed.option:
@@ -220,7 +220,7 @@ class Completion:
         return Candidates(list(options(typed.verb)))
 
     def _argument(self, typed: Typed, part: str) -> Candidates:
-        """What may stand where no option does."""
+        """Return what may stand where no option does."""
         if not typed.plain:
             return Candidates([*map(Word, self._urls(part, False)), *verb_words((*OF_SVN, OF_ALL))], True)
         if not typed.verb:
@@ -230,7 +230,7 @@ class Completion:
         return self._values(next(taken, None), typed, part)
 
     def _values(self, action: argparse.Action | None, typed: Typed, part: str) -> Candidates:
-        """What may stand for an argument, or for the value of an option."""
+        """Return what may stand for an argument, or for the value of an option."""
         name = action.metavar if action is not None and isinstance(action.metavar, str) else ""
         is_argument = action is not None and not action.option_strings
         if name in FILES:

@@ -126,7 +126,7 @@ class BranchNames:
                 self._below[top].discard(each)
 
     def paths(self) -> list[bytes]:
-        """Those that are no directories of others."""
+        """Return the paths that are no directories of others."""
         paths = self._below.get(b"/", set())
         return sorted(path for path in paths if path not in self._made or len(self._below[path]) == 1)
 

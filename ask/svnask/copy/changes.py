@@ -60,7 +60,7 @@ class KnownBlocks(dict[bytes, "Change | None"]):
         return found
 
     def changes(self, blocks: bytes) -> list[Change] | None:
-        """What the records of a revision come to, or None where one has not the form that Subversion writes."""
+        """Return what the records of a revision come to, or None where one has not the form that Subversion writes."""
         if MERGEINFO in blocks:
             blocks = without_sections(blocks)
         found = Combined()
@@ -85,7 +85,7 @@ def without_sections(blocks: bytes) -> bytes:
 
 
 def changes_of(nodes: Iterable[Node]) -> list[Change]:
-    """What the records of a revision come to, in the order of their paths."""
+    """Return what the records of a revision come to, in the order of their paths."""
     found = Combined()
     for node in nodes:
         found.add(change_of(*node))
@@ -101,7 +101,7 @@ def change_of(
     text: bytes | None,
     properties: bytes | None,
 ) -> Change:
-    """What one record does."""
+    """Return what one record does."""
     letter = LETTERS.get(action or b"", "R")
     if letter == "D":
         return Change(clean(path), letter, None)
@@ -111,7 +111,7 @@ def change_of(
 
 
 def copy_source_of(records: Iterable[Record], path: bytes) -> Place | None:
-    """Where a path came from with a copy that a revision with these records made of it or of a path above it."""
+    """Return where a path came from with a copy that a revision with these records made of it or of a path above it."""
     found: Place | None = None
     for record in records:
         if record.action in ("add", "replace") and is_at_or_below(path, record.path):
@@ -132,7 +132,7 @@ def place_of_change(change: Change, rev: int, records: Iterable[Record]) -> Plac
 
 
 class Combined:
-    """What the records of a revision come to, one after another."""
+    """The changes of a revision, combined record by record."""
 
     def __init__(self) -> None:
         self._found: dict[bytes, Change] = {}

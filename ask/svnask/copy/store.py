@@ -62,7 +62,7 @@ ENTRY = re.compile(rb"K [0-9]+\n(.*)\nV ([0-9]{1,18})\n")
 
 
 class Setting(NamedTuple):
-    """What a record does to the mergeinfo of its path: it puts a text, or takes it away."""
+    """A change of the mergeinfo of a path: a text, or None where it is taken away."""
 
     text: bytes | None
 
@@ -96,8 +96,8 @@ class Revision(NamedTuple):
 
 
 class Kept(NamedTuple):
-    """What the cache knows of a copy: what it is of, how the file was of which it is, the number in the names of its
-    files, and the length of the first one."""
+    """The identity of a copy in the cache: its source, the state of the file, the number in the names of its files, and
+    the length of the first one."""
 
     kind: bytes = b""
     # The real path of a file or a folder, or a URL.
@@ -108,7 +108,7 @@ class Kept(NamedTuple):
 
 
 class Index(NamedTuple):
-    """What is known of a copy beside its bytes."""
+    """The index of a copy: all that is known beside its bytes."""
 
     format: int
     uuid: bytes
@@ -170,7 +170,7 @@ def index_of(text: bytes) -> Index:
 
 
 class Front(NamedTuple):
-    """What an index says of a copy as a whole."""
+    """The part of an index that is about the copy as a whole."""
 
     kept: Kept
     length: int
@@ -325,7 +325,7 @@ class Store:
         return int(found["at"]), section_of_revision(found)
 
     def nodes(self, rev: int) -> Iterator[Node]:
-        """What is listed of the records of a revision."""
+        """Yield the listed fields of each record of a revision."""
         for found, _, _ in self._nodes(rev, rev):
             yield found.group("path", "kind", "action", "from_rev", "from_path", "text", "properties")
 
@@ -413,7 +413,7 @@ def section_of_revision(found: re.Match[bytes]) -> bytes:
 
 
 def revision_of_block(found: re.Match[bytes]) -> Revision:
-    """What the block of a revision says."""
+    """Return what the block of a revision says."""
     rev, at, length, _, length_of_author, author, date, length_of_message = found.groups()
     if author is not None and len(author) == int(length_of_author):
         begin = found.end()
@@ -457,7 +457,7 @@ def record_of(found: re.Match[bytes], number: int, rev: int, version: int) -> Re
 
 
 def setting_of(section: bytes, is_delta: bool) -> Setting | None:
-    """What a property section does to mergeinfo."""
+    """Return what a property section does to mergeinfo."""
     if not section:
         return None
     if is_one_mergeinfo(section):

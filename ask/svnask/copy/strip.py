@@ -77,7 +77,7 @@ class Malformed(Exception):
 
 
 class Copy:
-    """What is known of a copy beside its bytes."""
+    """The facts about a copy beside its bytes."""
 
     def __init__(self, format: int = 0, uuid: bytes | None = None) -> None:  # pylint: disable=redefined-builtin
         self.format, self.uuid = format, uuid
@@ -159,7 +159,8 @@ def body_of(section: bytes) -> bytes:
 
 
 def is_one_mergeinfo(section: bytes) -> bool:
-    """Whether a property section sets `svn:mergeinfo` and nothing else. Long values need not be taken apart then."""
+    """Return whether a property section sets `svn:mergeinfo` and nothing else. Long values need not be taken apart
+    then."""
     if not section.startswith(ONE_MERGEINFO):
         return False
     digits, _, _ = section[len(ONE_MERGEINFO) : len(ONE_MERGEINFO) + 32].partition(b"\n")
@@ -183,8 +184,8 @@ def mergeinfo_alone(section: bytes, is_delta: bool) -> bytes:
 
 
 def names_any(section: bytes, is_delta: bool, front: bytes) -> bool:
-    """Whether a property section changes properties, given the headers before it. An empty list does where there were
-    some: in a record that neither changes nor copies there were none."""
+    """Return whether a property section changes properties, given the headers before it. An empty list does where there
+    were some: in a record that neither changes nor copies there were none."""
     if not section or section != LAST_LINE:
         return bool(section)
     return not is_delta and (b"Node-action: change\n" in front or COPIED in front)

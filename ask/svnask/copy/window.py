@@ -27,12 +27,12 @@ class Window:
 
     @property
     def read(self) -> int:
-        """How many bytes of the dump were read or passed over."""
+        """Return how many bytes of the dump were read or passed over."""
         return self.base + len(self.data)
 
     @property
     def is_cut(self) -> bool:
-        """Whether a file is shorter now than what was read of it."""
+        """Return whether a file is shorter now than what was read of it."""
         return self._is_regular and os.fstat(self._file.fileno()).st_size < self._file.tell()
 
     def want(self, at: int, count: int) -> int:

@@ -70,7 +70,7 @@ class Answer(Fields):
 
 
 class Located(Answer):
-    """Where a path was in a revision."""
+    """The location of a path in a revision."""
 
     query: Locate
 
@@ -80,7 +80,7 @@ class Located(Answer):
 
 
 class Segments(Answer):
-    """Where a path was in all revisions up to its peg, the newest first."""
+    """The location segments of a path up to its peg, the newest first."""
 
     query: Where
 
@@ -105,7 +105,7 @@ class Logged(Answer):
 
     @property
     def paths(self) -> list[bytes]:
-        """Where the path was in each of them."""
+        """Return where the path was in each of them."""
         return [line[line.index(b" ") + 1 :] for line in self.lines]
 
 
@@ -150,7 +150,7 @@ def numbers_in(log: bytes) -> list[int] | None:
 
 
 def is_askable(path: bytes) -> bool:
-    """Whether svnhist can be asked about a path."""
+    """Return whether svnhist can be asked about a path."""
     return not any(letter in path for letter in SEPARATORS)
 
 
@@ -184,7 +184,7 @@ class Query(Fields, Generic[A_co]):
 
 
 class Locate(Query[Located]):
-    """Where a path was in the revision `at`."""
+    """The query for the location of a path in the revision `at`."""
 
     def __init__(self, path: bytes, rev: int, at: int) -> None:
         super().__init__(path, rev)
@@ -198,7 +198,7 @@ class Locate(Query[Located]):
 
 
 class Where(Query[Segments]):
-    """Where a path was in all revisions."""
+    """The query for the location segments of a path."""
 
     def line(self) -> bytes:
         return b"segments\t" + peg_text(self.path, self.rev)
@@ -232,8 +232,8 @@ class Mergeinfo(Query[Inherited]):
 
 
 class Pair(Query[Merges]):
-    """What of a source was merged into a target (`merged`), or is still to be merged (`eligible`). The source comes
-    first, then the verb, then the target.
+    """The query for the revisions of a source that were merged into a target (`merged`), or are still to be
+    (`eligible`). The source comes first, then the verb, then the target.
 
     >>> Pair(b"trunk", 19, "eligible", b"branches/two", 19).line()
     b'eligible\\ttrunk@19\\tbranches/two@19'

@@ -44,8 +44,8 @@ Buffer = Union[bytes, memoryview, mmap.mmap]
 
 
 def folders_of_programs(modules: str) -> Iterator[str]:
-    """Where the programs are that belong to a folder of modules: above it in the tree, in the folder for programs of
-    the prefix, or in that of the folder itself, as `pip install --target` has it."""
+    """Yield the folders of the programs that belong to a folder of modules. That is the one above it in the tree, the
+    one for programs of the prefix, or, after `pip install --target`, its own."""
     above, name = os.path.split(modules)
     if name == OF_TREE:
         yield above
@@ -90,7 +90,7 @@ def started(words: Sequence[str]) -> subprocess.Popen[bytes]:
 
 
 class Reply(NamedTuple):
-    """What the program replied to a query: a status, and the lines of the result."""
+    """The reply of the program to a query: a status, and the lines of the result."""
 
     status: str
     text: bytes
@@ -131,7 +131,7 @@ class Talk:
 
     @property
     def is_over(self) -> bool:
-        """Whether nothing more can be asked. A program that ended before it was ready has yet to say why."""
+        """Return whether nothing more can be asked. A program that ended before it was ready has yet to say why."""
         return self._is_closed or (not self._unready and self._process.poll() is not None)
 
     def ready(self) -> int:
@@ -301,7 +301,7 @@ class Replies:
 
     @property
     def has_more(self) -> bool:
-        """Whether more was printed than what was taken."""
+        """Return whether more was printed than what was taken."""
         return bool(self._read)
 
     def close(self) -> None:

@@ -71,8 +71,8 @@ def shown_date(date: bytes | None, zone: str | None = None) -> str:
 
 
 class Day(NamedTuple):
-    """How a day of UTC is shown where local time is so many whole hours ahead all day: as itself, as the next day and as
-    the one before, each at the begin and at the end of the line."""
+    """A day of UTC where local time is so many whole hours ahead all day. `names` has the previous, the same and the
+    next day, each for the begin and the end of the line."""
 
     hours: int
     zone: bytes
@@ -80,7 +80,7 @@ class Day(NamedTuple):
 
 
 class Clock:
-    """How dates are shown, as long as the time zone stays the same. Each day is looked up once."""
+    """A printer of dates, as long as the time zone stays the same. It looks up each day once."""
 
     def __init__(self, zone: str | None = None) -> None:
         self._zone = zone

@@ -37,7 +37,7 @@ class Life(NamedTuple):
         return self.first <= rev <= self.last
 
     def continues(self, other: Life) -> bool:
-        """Whether this is the other one under another name: it was moved."""
+        """Return whether this is the other one under another name: it was moved."""
         return self.source == (other.path, other.last) and self.first == other.last + 1 and not other.is_alive
 
 
@@ -51,7 +51,7 @@ class Event(NamedTuple):
 
 
 class Tree:
-    """What was at each path of each revision, by the records that made or unmade it."""
+    """The paths of all revisions, by the records that made or unmade them."""
 
     def __init__(self, records: Iterable[Record]) -> None:
         self._events: dict[bytes, list[Event]] = {}
@@ -76,7 +76,8 @@ class Tree:
         return sorted(found, key=lambda each: each[1].number)
 
     def exists(self, path: bytes, rev: int) -> bool:
-        """Whether a path is in the tree of a revision: in its own, or in that which it was copied from, and so on."""
+        """Return whether a path is in the tree of a revision: in its own, or in that which it was copied from, and so
+        on."""
         place: Place | None = (path, rev)
         passed: list[Place] = []
         is_there = False
@@ -89,7 +90,7 @@ class Tree:
         return is_there
 
     def _step(self, path: bytes, rev: int) -> tuple[bool, Place | None]:
-        """Whether a path is in the tree of a revision, or else the place on which that depends."""
+        """Return whether a path is in the tree of a revision, or else the place on which that depends."""
         if path == b"/":
             return True, None
         newest: Event | None = None
@@ -107,7 +108,7 @@ class Tree:
         return False, moved(path, place, newest.source) if newest.source[1] < newest.rev else None
 
     def source(self, path: bytes, rev: int) -> Place | None:
-        """Where the node at a path of a revision was copied from last, if it was."""
+        """Return where the node at a path of a revision was copied from last, if it was."""
         return self._step(path, rev)[1]
 
     def made(self, path: bytes, rev: int) -> Place | None:
@@ -133,7 +134,7 @@ class Tree:
         return path, events[at - 1].rev if at else 0
 
     def is_made(self, path: bytes, rev: int) -> bool:
-        """Whether a record of a revision made or unmade a path or one above it."""
+        """Return whether a record of a revision made or unmade a path or one above it."""
         for top in tops_of(path):
             events = self._events.get(top, [])
             at = count_up_to(events, rev)
@@ -142,7 +143,7 @@ class Tree:
         return False
 
     def after(self, path: bytes, top: bytes, event: Event) -> bool:
-        """Whether a path is there after an event of it or of a path above it."""
+        """Return whether a path is there after an event of it or of a path above it."""
         if event.action == "delete":
             return False
         if event.source is None:
@@ -165,7 +166,7 @@ class Tree:
         return found
 
     def _sources(self, path: bytes, rev: int | None) -> Iterator[Place]:
-        """Where a path was copied from, up to a revision if one is given."""
+        """Yield the copy sources of a path, up to a revision if one is given."""
         for top in tops_of(path):
             for event in self._events.get(top, ()):
                 if event.source is not None and (rev is None or event.rev <= rev):
@@ -178,7 +179,7 @@ class Tree:
 
     @functools.cached_property
     def _copies_of(self) -> dict[Place, list[Place]]:
-        """Where each place was copied to, and in which revisions."""
+        """Return where each place was copied to, and in which revisions."""
         found: dict[Place, list[Place]] = {}
         for path, event in self.copies():
             assert event.source is not None
@@ -186,7 +187,7 @@ class Tree:
         return found
 
     def moved_to(self, life: Life) -> bytes | None:
-        """Where a life that ended goes on as a copy of its last revision, if it does."""
+        """Return where a life that ended goes on as a copy of its last revision, if it does."""
         end = life.last + 1
         for top in tops_of(life.path):
             for path, rev in self._copies_of.get((top, life.last), ()):
@@ -239,7 +240,8 @@ class Tree:
         return rising
 
     def _special_below(self, rising: list[bytes], path: bytes, event: Event) -> Iterator[bytes]:
-        """Where a copy may have put such paths. What it is of may have come with copies itself."""
+        """Yield the places to which a copy may have put such paths. The copy source may have come with copies
+        itself."""
         place = event.source
         while place is not None:
             source = place[0]
@@ -250,12 +252,12 @@ class Tree:
             place = self._step(*place)[1] if projects.is_in_named(source) else None
 
     def _is_in_copy(self, path: bytes, branches: dict[bytes, None]) -> bool:
-        """Whether a path is in a branch that is none by its name."""
+        """Return whether a path is in a branch that is none by its name."""
         _, *above = tops_of(path)
         return any(top in branches and not projects.is_named(top) for top in above)
 
     def _may_be_folder(self, path: bytes) -> bool:
-        """Whether a path was never a trunk or a copy."""
+        """Return whether a path was never a trunk or a copy."""
         is_trunk = projects.is_named(path) and projects.kind_of(path) == projects.TRUNK
         return not is_trunk and not any(event.source is not None for event in self._events.get(path, ()))
 
@@ -265,7 +267,7 @@ class Tree:
         return tops_above(self.branches)
 
     def is_folder(self, path: bytes) -> bool:
-        """Whether a path is a directory of branches, and none itself."""
+        """Return whether a path is a directory of branches, and none itself."""
         return self._may_be_folder(path) and path in self._folders
 
     def matching(self, pattern: bytes) -> list[bytes]:
@@ -302,7 +304,7 @@ class Tree:
 
 
 def moves_of(lives: Sequence[Life]) -> dict[Life, Life]:
-    """Of those of some lives that go on with another one of them under a new name, that other one."""
+    """Map each life that was moved to the one that continues it."""
     ends = {(life.path, life.last): life for life in lives}
     pairs = [(ends[life.source], life) for life in lives if life.source in ends]
     return {life: later for life, later in pairs if later.continues(life)}
@@ -322,7 +324,7 @@ def chains_of(lives: Sequence[Life]) -> list[list[Life]]:
 
 
 def count_up_to(events: Sequence[Event], rev: int) -> int:
-    """How many of the events are of revisions up to this one."""
+    """Return how many of the events are of revisions up to this one."""
     low, high = 0, len(events)
     while low < high:
         middle = (low + high) // 2

@@ -95,7 +95,7 @@ class OpenHistory:
 
     @property
     def is_from_cache(self) -> bool:
-        """Whether another run read the dump.
+        """Return whether another run read the dump.
 
         >>> with History.open("interop/merges.dump", is_cached=False) as merges:
         ...     merges.is_from_cache
@@ -113,7 +113,7 @@ class OpenHistory:
 
     @property
     def is_whole(self) -> bool:
-        """Whether the dump has its form from its first byte to its last one, and revisions from 0 on.
+        """Return whether the dump has its form from its first byte to its last one, and revisions from 0 on.
 
         >>> history.is_whole
         True
@@ -138,7 +138,7 @@ class OpenHistory:
 
     @property
     def index(self) -> Index:
-        """What is known of the dump as a whole.
+        """Return what is known of the dump as a whole.
 
         >>> history.index.format, history.index.records, history.index.size
         (2, 22, 5930)
@@ -155,7 +155,7 @@ class OpenHistory:
         return self._store.head
 
     def begin(self) -> None:
-        """Has svnhist read the dump meanwhile, since questions will follow."""
+        """Start svnhist, which reads the dump until questions follow."""
         self._talking()
 
     def renew(self, source: Source, progress: Progress, is_cached: bool = True, is_offline: bool = False) -> None:
@@ -171,8 +171,8 @@ class OpenHistory:
             raise Failed(f"cannot read {source.name}, or copy what is needed of it: {error.strerror}") from error
 
     def _is_current(self, source: Source, is_cached: bool, is_offline: bool) -> bool:
-        """Whether the source is as it was read, and the cache has what this history has. Another run may have read
-        properties anew."""
+        """Return whether the source is as it was read, and the cache has what this history has. Another run may have
+        read properties anew."""
         entry = source.entry() if is_cached else None
         if entry is not None and not entry.is_newest(self.index):
             return False
@@ -274,7 +274,7 @@ class OpenHistory:
         return self._refused
 
     def locate(self, path: bytes, rev: int, at: int) -> Located:
-        """Where a path of one revision was in another one.
+        """Return where a path of one revision was in another one.
 
         >>> history.locate(b"tags/one-1.0", 13, 2).path
         b'/trunk'
@@ -298,7 +298,7 @@ class OpenHistory:
         return one(self.ask([Log(path, rev)]))
 
     def askable(self, paths: Iterable[bytes]) -> Iterator[bytes]:
-        """Those of some paths about which svnhist can be asked. Of others the history gives notice.
+        """Yield the paths about which svnhist can be asked. Of others the history gives notice.
 
         >>> list(history.askable([b"/trunk"]))
         [b'/trunk']
@@ -311,7 +311,7 @@ class OpenHistory:
                 self.notice(f"a path with a tab or a newline is left out: '{shown}'")
 
     def kind(self, path: bytes, rev: int) -> str | None:
-        """Whether a path of a revision is a `file` or a `dir`, as the record says that added it first.
+        """Return whether a path of a revision is a `file` or a `dir`, as the record says that added it first.
 
         >>> history.kind(b"/trunk/main.c", 13), history.kind(b"/trunk", 13), history.kind(b"/none", 13)
         ('file', 'dir', None)
@@ -372,7 +372,7 @@ class OpenHistory:
 
     @property
     def tree(self) -> Tree:
-        """What was at each path of each revision. It is made once.
+        """Return what was at each path of each revision. It is made once.
 
         >>> history.tree.exists(b"/branches/one", 7), history.tree.exists(b"/branches/one", 8)
         (True, False)
@@ -412,7 +412,7 @@ class OpenHistory:
         return text.split(b"\n\n", 1)[0].split(b"\n")
 
     def is_read_from(self, name: str) -> bool:
-        """Whether the dump is the file of a name.
+        """Return whether the dump is the file of a name.
 
         >>> history.is_read_from("interop/branches.dump"), history.is_read_from("interop/none.dump")
         (True, False)
@@ -447,7 +447,7 @@ class OpenHistory:
         return changes[bisect.bisect_left(keys, key) : bisect.bisect_left(keys, key + b"\1")]
 
     def find_kinds(self, revs: Iterable[int]) -> None:
-        """Has `changes` of these revisions say the kind of each path, of which no record of a deletion speaks.
+        """Complete the kinds in `changes` of these revisions. No record of a deletion has one.
 
         >>> history.find_kinds([8])
         >>> [(change.letter, change.path, change.kind) for change in history.changes(8)]

@@ -20,8 +20,8 @@ LONG, LENGTH_OF_PART = 8000, 1000
 
 
 class Wanted(NamedTuple):
-    """What is shown of each revision: the properties of these names, or all where there are none, and with
-    `is_verbose` the changed paths. Of some groups of patterns one must match it."""
+    """The parts of each revision to show: the properties of these names, or all for None, and with `is_verbose` the
+    changed paths. One of the groups of patterns must match."""
 
     names: frozenset[bytes] | None = SHOWN
     is_verbose: bool = False
@@ -56,7 +56,7 @@ class Form(ABC):
 
     @abstractmethod
     def texts(self, revision: Revision) -> Iterator[bytes]:
-        """What is searched of a revision, beside its paths."""
+        """Return what is searched of a revision, beside its paths."""
 
 
 def up_to_nul(text: bytes) -> bytes:

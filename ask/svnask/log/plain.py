@@ -57,7 +57,7 @@ class PlainForm(Form):
             yield revision.message or b""
 
     def _text_of(self, via: tuple[int, ...], is_reverse: bool) -> bytes:
-        """Where an entry was merged. Entries that follow each other mostly have the same list."""
+        """Return where an entry was merged. Entries that follow each other mostly have the same list."""
         if via is not self._via:
             self._via, self._via_text = via, b", ".join([b"r%d" % rev for rev in via])
         return b"%s via: %s\n" % (b"Reverse merged" if is_reverse else b"Merged", self._via_text)

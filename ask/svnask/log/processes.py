@@ -23,13 +23,13 @@ SIGNALS = (signal.SIGINT, signal.SIGTERM, signal.SIGHUP)
 
 
 def count_of_processes() -> int:
-    """How many processes may be at work at once. A process with other threads is not copied, since these may hold
-    locks."""
+    """Return how many processes may be at work at once. A process with other threads is not copied, since these may
+    hold locks."""
     return min(len(os.sched_getaffinity(0)), MOST) if threading.active_count() == 1 else 1
 
 
 def made(make: Callable[[T], bytes], parts: Sequence[T], count: int) -> Iterator[bytes]:
-    """What is made of each part, in their order, by so many processes or, if that is one, by this one."""
+    """Yield the results of a function for some parts, in order, computed by so many processes."""
     with ExitStack() as ending:
         makers: list[Maker] = []
         # Where no process can be started, there are fewer.
@@ -81,7 +81,7 @@ class Maker:
 
 @contextmanager
 def signals_blocked() -> Iterator[Iterable[int]]:
-    """Has signals wait. Those that were blocked before are given."""
+    """Block all signals, and yield those that were blocked before."""
     before = signal.pthread_sigmask(signal.SIG_BLOCK, SIGNALS)
     try:
         yield before

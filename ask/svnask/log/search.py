@@ -55,7 +55,7 @@ def pieces_of(pattern: bytes) -> Iterator[bytes]:
 
 
 def element_at(pattern: bytes, at: int) -> tuple[bytes, int]:
-    """What stands for one byte at a place of a pattern, and the place after it."""
+    """Return what stands for one byte at a place of a pattern, and the place after it."""
     if pattern[at] == ONE:
         return b".", at + 1
     if pattern[at] == SET:
@@ -74,7 +74,7 @@ def letter_at(pattern: bytes, at: int) -> tuple[int, int]:
 
 
 def end_of_set(pattern: bytes, at: int) -> int | None:
-    """Where a set ends, if it does. A bracket that is the first letter in it is one of its letters."""
+    """Return where a set ends, if it does. A bracket that is the first letter in it is one of its letters."""
     if pattern[at : at + 1] in (b"!", b"^"):
         at += 1
     first = at
@@ -117,6 +117,6 @@ def folded(text: bytes) -> bytes | None:
 
 
 def is_found(groups: Iterable[Group], texts: Iterable[bytes]) -> bool:
-    """Whether all patterns of some group match, each some text."""
+    """Return whether all patterns of some group match, each some text."""
     plain = [found for found in map(folded, texts) if found is not None]
     return any(all(any(glob.matches(text) for text in plain) for glob in group) for group in groups)

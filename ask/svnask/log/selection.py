@@ -35,7 +35,7 @@ class Item(NamedTuple):
 
 
 class Trace(NamedTuple):
-    """Where a path was, the newest segment first, and the revisions that svnhist calls operative."""
+    """The segments of a path, the newest first, and the revisions that svnhist calls operative."""
 
     segments: list[Segment]
     revisions: list[int]
@@ -45,7 +45,7 @@ class Trace(NamedTuple):
         return next((each for each in self.segments if each.lo <= rev <= each.hi and each.path is not None), None)
 
     def is_gap(self, rev: int) -> bool:
-        """Whether the path was nowhere in a revision, between a copy and its source."""
+        """Return whether the path was nowhere in a revision, between a copy and its source."""
         return self.at(rev) is None and any(each.lo <= rev <= each.hi for each in self.segments)
 
 
@@ -55,7 +55,7 @@ def not_found(history: OpenHistory, target: Target, rev: int) -> Denied:
 
 
 def how_it_ended(history: OpenHistory, path: bytes, rev: int) -> Iterator[str]:
-    """Where a path ended that is not there any more, and what it became."""
+    """Yield advice about a path that is gone: where it ended, and what it became."""
     tree = history.tree
     life = max(
         (life for life in tree.lives(path, history.head) if life.last < rev), default=None, key=attrgetter("last")
@@ -91,7 +91,7 @@ def not_located(target: Target, rev: int) -> Denied:
 
 
 def traces(history: OpenHistory, places: Iterable[Place]) -> Iterator[tuple[Place, Trace | None]]:
-    """Where each of some paths was and when it changed, if it is there."""
+    """Yield the trace of each path that is there, else None."""
     queries = {place: (Where(*place), Log(*place)) for place in places}
     answers = history.answers(query for pair in queries.values() for query in pair)
     for place, (asked, logged) in queries.items():

@@ -73,7 +73,7 @@ def path_text(change: Change) -> bytes:
 
 
 def is_plain_xml(value: bytes) -> bool:
-    """Whether a value can stand in XML as it is."""
+    """Return whether a value can stand in XML as it is."""
     try:
         value.decode("utf-8")
     except UnicodeDecodeError:
@@ -102,7 +102,7 @@ class XmlForm(Form):
         self._path_text = functools.lru_cache(MANY)(path_text)
 
     def texts(self, revision: Revision) -> Iterator[bytes]:
-        """What is there, as it is."""
+        """Return what is there, as it is."""
         return (text for text in (revision.author, revision.date, revision.message) if text is not None)
 
     def entry(self, entry: LogEntry) -> bytes:

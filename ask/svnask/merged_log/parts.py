@@ -21,7 +21,7 @@ class MergedPart(NamedTuple):
 
 
 class Rest:
-    """What is left of the ranges of a path. `place` orders paths whose first ranges are the same."""
+    """The ranges of a path that are left. `place` orders paths whose first ranges are the same."""
 
     def __init__(self, path: bytes, ranges: list[Interval], place: int) -> None:
         self.path = path
@@ -34,7 +34,7 @@ class Rest:
 
     @property
     def is_last(self) -> bool:
-        """Whether no other range follows the first one."""
+        """Return whether no other range follows the first one."""
         return not self._ranges
 
     def pass_by(self) -> None:
@@ -103,7 +103,7 @@ def parts_of_mergeinfo(info: Intervals, is_reverse: bool) -> list[MergedPart]:
 
 
 def pass_by(together: deque[Rest], last: int) -> None:
-    """Has paths go on after a revision. For each that has no further range the first one is dropped."""
+    """Let paths go on after a revision. Each loses a first range that ends before it."""
     for each in tuple(together):
         each.first = last + 1
         if each.first > each.last and each.is_last:

@@ -38,19 +38,19 @@ class Range(NamedTuple):
 
 
 class Walked:
-    """What was walked below some merge: for each path the rising runs of its revisions, of which none touches another."""
+    """The revisions that were walked below some merge: for each path rising runs, none of which touches another."""
 
     def __init__(self) -> None:
         self._runs: dict[bytes, list[Interval]] = {}
 
     def has(self, path: bytes, low: int, high: int) -> bool:
-        """Whether all of a range of a path was walked."""
+        """Return whether all of a range of a path was walked."""
         return high <= self._run(path, low)[1]
 
     def left(self, path: bytes, low: int, high: int) -> Interval:
-        """What Subversion walks of a range of which not all was walked. The first run that reaches into it from before
-        has it begin with the last revision of that run, which is walked again. Else one that reaches out of its end has
-        it end with the first revision of that run."""
+        """Return what Subversion walks of a range of which not all was walked. The first run that reaches into it from
+        before has it begin with the last revision of that run, which is walked again. Else one that reaches out of
+        its end has it end with the first revision of that run."""
         is_empty = low > high
         first, last = (high, low) if is_empty else (low, high)
         begin, end = self._run(path, first), self._run(path, last)
@@ -193,8 +193,8 @@ class Walker:
         yield items
 
     def _merged(self, cuts: list[Cut], revisions: list[int]) -> dict[int, list[MergedPart]]:
-        """What was merged in each of some revisions, if anything was. It is looked up where each path goes on before
-        the revision, but as of the revision itself."""
+        """Return what was merged in each of some revisions, if anything was. It is looked up where each path goes on
+        before the revision, but as of the revision itself."""
         found: dict[int, list[MergedPart]] = {}
         changing = self._changes.revisions
         for rev in revisions:
@@ -233,15 +233,16 @@ class Walker:
         return left, low, high
 
     def _is_sent(self, rev: int, is_apart: bool) -> bool:
-        """Whether a merged revision is sent: once, and not where it changed nothing but what the targets were then."""
+        """Return whether a merged revision is sent: once, and not where it changed nothing but what the targets were
+        then."""
         if rev in self._sent or not (is_apart or self._is_elsewhere(rev)):
             return False
         self._sent.add(rev)
         return True
 
     def _is_apart(self, cut: Cut, low: int) -> bool:
-        """Whether a path was, from a revision on, neither below nor above where the targets ever were. What changed it,
-        or copied what is above it, is elsewhere then."""
+        """Return whether a path was, from a revision on, neither below nor above where the targets ever were. What
+        changed it, or copied what is above it, is elsewhere then."""
         paths = [segment.path for segment in cut.segments if segment.hi >= low]
         return not any(
             each is None or is_at_or_below(each, own) or is_at_or_below(own, each)
@@ -250,7 +251,7 @@ class Walker:
         )
 
     def _is_elsewhere(self, rev: int) -> bool:
-        """Whether a revision changed a path that is not at or below where the targets were then."""
+        """Return whether a revision changed a path that is not at or below where the targets were then."""
         own = [path for path, intervals in self._own.items() if is_in(intervals, rev)]
         return any(not any(is_at_or_below(change.path, top) for top in own) for change in self._history.changes(rev))
 

@@ -38,7 +38,7 @@ def runs_of(text: bytes) -> list[Run]:
 
 
 def has_clash(runs: list[Run]) -> bool:
-    """Whether a revision is in a run that is inheritable and in one that is not."""
+    """Return whether a revision is in a run that is inheritable and in one that is not."""
     reached = {True: 0, False: 0}
     for run in sorted(runs):
         if run.lo <= reached[not run.inheritable]:
@@ -70,7 +70,7 @@ def source_path(path: bytes) -> bytes:
 
 
 def value_of(text: bytes) -> Value | None:
-    """What a text says, or None where Subversion can't read it."""
+    """Return what a text says, or None where Subversion can't read it."""
     value: Value = {}
     try:
         for line in lines_of(text):

@@ -44,7 +44,7 @@ class Summary(NamedTuple):
 
 
 class BranchPair:
-    """What is asked of two branches, in one run of svnhist."""
+    """The queries about two branches, in one run of svnhist."""
 
     def __init__(self, history: OpenHistory, source: Target, target: Target) -> None:
         self.source = source
@@ -59,7 +59,7 @@ class BranchPair:
         self._places = {each: self._located(each) for each in (source, target)}
 
     def _located(self, branch: Target) -> list[tuple[int, int, bytes]]:
-        """Where a branch was, the newest revisions first."""
+        """Return where a branch was, the newest revisions first."""
         answer = self._answers[Where(*branch)]
         if not answer.ok:
             raise log.not_reached(self._history, branch)

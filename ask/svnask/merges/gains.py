@@ -44,14 +44,14 @@ class Tallied(NamedTuple):
 
 
 def split_lost(held: Tallied, intervals: Sequence[Interval], lost: int) -> tuple[Tallied, Tallied]:
-    """Those that are left, and those in some intervals, which are lost."""
+    """Split the revisions into those that are kept and those that are lost."""
     gone = {rev for lo, hi in intervals for rev in between(held.revisions, lo, hi)}
     left = [rev for rev in held.revisions if rev not in gone] if gone else held.revisions
     return held._replace(revisions=left), held._replace(revisions=sorted(gone), lost=lost)
 
 
 def between(revisions: list[int], lo: int, hi: int) -> list[int]:
-    """Those of rising revisions that are in an interval."""
+    """Return the rising revisions that are in an interval."""
     return revisions[bisect.bisect_left(revisions, lo) : bisect.bisect_right(revisions, hi)]
 
 
@@ -76,7 +76,7 @@ class Sources:
 
 
 class Tally:
-    """What one target has gained so far."""
+    """The revisions that one target has gained so far."""
 
     def __init__(self, sources: Sources, own: Intervals) -> None:
         self._sources = sources
@@ -114,13 +114,13 @@ class Tally:
 
 
 def is_in(intervals: Sequence[Interval], rev: int) -> bool:
-    """Whether a revision is in some rising intervals."""
+    """Return whether a revision is in some rising intervals."""
     at = bisect.bisect_left(intervals, (rev + 1,)) - 1
     return at >= 0 and rev <= intervals[at][1]
 
 
 def minus(these: Sequence[Interval], those: Sequence[Interval]) -> list[Interval]:
-    """What is in some intervals and not in others. Both rise."""
+    """Return what is in some intervals and not in others. Both rise."""
     left = []
     at = 0
     for lo, hi in these:
@@ -158,7 +158,7 @@ def intervals_of_ranges(ranges: str) -> list[Interval]:
 
 
 def own_history(segments: Segments) -> Intervals:
-    """Where a target was itself."""
+    """Return where a target was itself."""
     found: Intervals = {}
     for segment in reversed(segments.segments):
         if segment.path is not None:
@@ -174,8 +174,8 @@ def candidates(explicit: Explicit, life: Life) -> list[int]:
 
 
 def queries_about_life(explicit: Explicit, life: Life) -> list[Query[Answer]]:
-    """Where a life was, its mergeinfo in each candidate, and before that what its source had: nothing where neither ever
-    had any."""
+    """Return where a life was, its mergeinfo in each candidate, and before that what its source had: nothing where
+    neither ever had any."""
     places = [life.path] if life.source is None else [life.path, life.source[0]]
     if not any(explicit.events(top) for path in places for top in tops_of(path)):
         return []
@@ -193,8 +193,8 @@ class LifeQuery(NamedTuple):
 
 
 def gains_of(operative: dict[Life, list[int]], asked: Iterable[LifeQuery], answers: Iterator[Answer]) -> list[Gain]:
-    """What each of these lives gained from the others, given their operative revisions and the answers, which are the
-    next ones, to the queries about them."""
+    """Return what each of these lives gained from the others, given their operative revisions and the answers, which
+    are the next ones, to the queries about them."""
     sources = Sources(operative)
     tallies: dict[Life, Tally] = {}
     for (life, _), answer in zip(asked, answers):
@@ -221,7 +221,7 @@ def joined_gains(held: dict[Life, list[Tallied]]) -> list[Gain]:
 
 
 def told_apart(held: dict[Life, list[Tallied]]) -> Iterator[tuple[Life, Tallied, bool]]:
-    """What a target gained, and whether another source carried it along."""
+    """Yield the gains of each target, with whether another source carried them along."""
     gained: dict[Life, dict[int, list[Tallied]]] = {}
     for target, all_of in held.items():
         for each in all_of:
@@ -239,14 +239,14 @@ def told_apart(held: dict[Life, list[Tallied]]) -> Iterator[tuple[Life, Tallied,
 
 
 def turns_in(turns: list[int], revisions: list[int]) -> Iterator[int]:
-    """Those of some rising revisions that are among others."""
+    """Yield the rising revisions that are among others."""
     for rev in between(turns, revisions[0], revisions[-1]):
         if between(revisions, rev, rev):
             yield rev
 
 
 def halves(target: Life, held: Tallied, carried: set[int]) -> Iterator[tuple[Life, Tallied, bool]]:
-    """What was merged itself, and what was carried along."""
+    """Yield the revisions that were merged themselves, and those that were carried along."""
     if not carried or carried.isdisjoint(held.revisions):
         yield target, held, False
         return

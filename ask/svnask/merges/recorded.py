@@ -43,7 +43,7 @@ class Recorded:
         self._known: dict[Place, Intervals] = {}
 
     def of(self, places: Iterable[Place]) -> list[Intervals]:
-        """What each of some places has that was only recorded."""
+        """Return what each of some places has that was only recorded."""
         asked = list(places)
         needed = self._needed(asked)
         for life in sorted(needed, key=lambda life: life.first):
@@ -96,7 +96,7 @@ class Recorded:
         return difference(self._effective(before), self._effective(now))
 
     def _effective(self, nearest: NearestText | None) -> Intervals:
-        """What a text says, which is nothing where it is malformed."""
+        """Return what a text says, which is nothing where it is malformed."""
         if nearest is None:
             return {}
         try:

@@ -60,7 +60,7 @@ class Lines(NamedTuple):
 
 
 class Question(NamedTuple):
-    """What is asked: `merged` or `eligible`, whether below the target, too, and for which revisions."""
+    """A question: `merged` or `eligible`, whether also below the target, and for which revisions."""
 
     verb: str
     is_recursive: bool = False
@@ -76,7 +76,7 @@ def revisions_of_runs(runs: Iterable[Run], most: int, inheritable: bool) -> set[
 
 
 def lines_of_value(value: Value, most: int) -> Lines:
-    """What a value says. A revision that is inheritable in one of several lines of a path is inheritable."""
+    """Return what a value says. A revision that is inheritable in one of several lines of a path is inheritable."""
     whole = {path: revisions_of_runs(runs, most, True) for path, runs in value.items()}
     other = {path: revisions_of_runs(runs, most, False) - whole[path] for path, runs in value.items()}
     return Lines(whole, other, sorted(whole))
@@ -107,7 +107,7 @@ def segments_of(history: OpenHistory, answers: Answers, target: Target) -> list[
 
 
 def located(segments: list[Segment], bounds: tuple[int, int]) -> Located:
-    """Where a path was, from revision 1 on and between the bounds."""
+    """Return where a path was, from revision 1 on and between the bounds."""
     found: Located = {}
     for segment in segments:
         if segment.path is not None:
@@ -118,7 +118,7 @@ def located(segments: list[Segment], bounds: tuple[int, int]) -> Located:
 
 
 def listed_in(places: Located, listed: list[int]) -> Listed:
-    """Those of the rising revisions of a log in which its path was at each place."""
+    """Return the rising revisions of a log in which its path was at each place."""
     return {
         path: {
             rev
@@ -173,7 +173,7 @@ def last_shared(these: list[range], those: list[range]) -> int:
 
 
 def add_own_history(catalog: Catalog, own: Located, there: Located, source: Listed) -> None:
-    """What the target has of the source because it was there itself counts as merged."""
+    """Count as merged the part of the source that the target was itself."""
     both = shared(own, source)
     last = {path: last_shared(ranges, there[path]) for path, ranges in own.items() if path in there}
     for path, lines in catalog.entries.items():
@@ -183,7 +183,7 @@ def add_own_history(catalog: Catalog, own: Located, there: Located, source: List
 
 
 class Coverage:
-    """Whether all that a revision changed of a source is merged, path by path."""
+    """A test of whether all that a revision changed of a source is merged, path by path."""
 
     def __init__(self, history: OpenHistory, catalog: Catalog, source: Iterable[bytes]) -> None:
         self._history = history
@@ -191,7 +191,7 @@ class Coverage:
         self._tops = set(source)
 
     def is_covered(self, rev: int) -> bool:
-        """Whether a revision changed anything, and all that it changed of the source is merged."""
+        """Return whether a revision changed anything, and all that it changed of the source is merged."""
         changes = self._history.changes(rev)
         return bool(changes) and all(self._is_change_covered(change, rev) for change in self._some_of(rev, changes))
 
@@ -232,12 +232,12 @@ def below(explicit: Explicit, target: Target) -> Iterator[Mergeinfo]:
 
 
 def queries_about(explicit: Explicit, target: Target, question: Question) -> list[Query[Answer]]:
-    """What is asked of svnhist about a target, whatever the source is."""
+    """Return what is asked of svnhist about a target, whatever the source is."""
     return [Where(*target), Mergeinfo(*target), *(below(explicit, target) if question.is_recursive else ())]
 
 
 def queries_of_pair(source: Target, target: Target, question: Question) -> list[Query[Answer]]:
-    """What is asked of svnhist for a question besides."""
+    """Return what is asked of svnhist for a question besides."""
     pairs = [] if question.is_recursive else [Pair(*source, verb, *target) for verb in ("merged", "eligible")]
     return [Where(*source), Log(*source), *pairs]
 
@@ -250,8 +250,8 @@ def queries_of_question(explicit: Explicit, source: Target, target: Target, ques
 def as_answered(
     answers: Answers, source: Target, target: Target, question: Question, found: Sorted, same: set[int]
 ) -> Sorted:
-    """What svnhist says of the operative revisions, and of other ones what was found here. `same` are those in which
-    source and target were one path."""
+    """Return what svnhist says of the operative revisions, and of other ones what was found here. `same` are those in
+    which source and target were one path."""
     if question.is_recursive:
         return found
     merged, eligible = answers[Pair(*source, "merged", *target)], answers[Pair(*source, "eligible", *target)]
@@ -270,7 +270,7 @@ def as_answered(
 
 
 class ShownMerges:
-    """What was merged from sources, or is to be, given what svnhist answers to the queries about their targets."""
+    """The revisions that were merged from sources, or are to be, by the answers about their targets."""
 
     def __init__(self, history: OpenHistory, explicit: Explicit, answers: Answers) -> None:
         self._history = history
@@ -311,7 +311,7 @@ class ShownMerges:
         return shown[::-1] if question.range and question.range[0] > question.range[1] else shown
 
     def has_none(self, target: Target, is_recursive: bool) -> bool:
-        """Whether a target that is there has no mergeinfo, so that nothing was merged from wherever."""
+        """Return whether a target that is there has no mergeinfo, so that nothing was merged from wherever."""
         is_there = self._answers[Mergeinfo(*target)].status != "no-such-path"
         return is_there and not self._catalog(target, is_recursive).entries
 
@@ -338,11 +338,11 @@ class ShownMerges:
         return lines_of_value(value, self._history.head)
 
     def _has_value(self, query: Mergeinfo) -> bool:
-        """Whether a path or one above it has a value. Its effective mergeinfo may be empty even so."""
+        """Return whether a path or one above it has a value. Its effective mergeinfo may be empty even so."""
         return any(self._explicit.text(path, query.rev) is not None for path in tops_of(query.path))
 
     def _read_less_strictly(self, query: Mergeinfo) -> Lines | None:
-        """What a text that is malformed for svnhist says to Subversion, which is less strict."""
+        """Return what a text that is malformed for svnhist says to Subversion, which is less strict."""
         for above in tops_of(query.path):
             text = self._explicit.text(above, query.rev)
             if text is not None:

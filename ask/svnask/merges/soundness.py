@@ -22,7 +22,7 @@ INHERITED = "is the same as what {} gives, and could go"
 
 
 class Finding(NamedTuple):
-    """What is wrong with the value of a path: with its revisions of a source, if one is named."""
+    """A fault in the value of a path, in its revisions of a source, if one is named."""
 
     path: bytes
     source: bytes | None
@@ -54,7 +54,7 @@ def spans_of(revisions: Iterable[int]) -> list[Span]:
 
 
 def outside(span: Span, others: Sequence[Span]) -> Iterator[Span]:
-    """What of a span is in none of some others, which are rising."""
+    """Yield the parts of a span that are in none of some rising others."""
     lo = span.lo
     for other in others:
         if other.hi >= lo and other.lo <= span.hi:
@@ -107,7 +107,7 @@ def whole_runs(runs: Iterable[Run]) -> list[Run]:
 
 
 def inherited(explicit: Explicit, path: bytes, head: int) -> NearestValue | None:
-    """What the nearest value above a path gives it, if that can be read."""
+    """Return what the nearest value above a path gives it, if that can be read."""
     for above in [each for each in tops_of(path) if each != path]:
         text = explicit.text(above, head)
         if text is not None:
@@ -120,7 +120,7 @@ def inherited(explicit: Explicit, path: bytes, head: int) -> NearestValue | None
 
 
 def findings_of_source(paths: Paths, path: bytes, source: bytes, runs: Sequence[Run]) -> Iterator[Finding]:
-    """What is wrong with the revisions that a value names of a source."""
+    """Yield the faults in the revisions that a value names of a source."""
     lives = paths.lives(source)
     spans = sorted(Span(run.lo, run.hi) for run in runs)
     if not lives:
@@ -139,7 +139,7 @@ def operative_of(paths: Paths, source: bytes, runs: Iterable[Run]) -> set[int]:
 
 
 def findings_of_nearest(paths: Paths, path: bytes, value: Value, nearest: NearestValue) -> Iterator[Finding]:
-    """Where a value says less than what the nearest one above gives, or the same."""
+    """Yield the sources of which a value says less than the nearest one above, or the same."""
     above = decoded(nearest.path)
     is_same, is_empty = True, True
     for source in sorted({*value, *nearest.value}):
@@ -155,8 +155,8 @@ def findings_of_nearest(paths: Paths, path: bytes, value: Value, nearest: Neares
 
 
 def findings(history: OpenHistory, patterns: Sequence[bytes]) -> list[Finding]:
-    """What is wrong with the values of the youngest revision, at and below the paths that match a pattern, or else the
-    path at which the source begins."""
+    """Return what is wrong with the values of the youngest revision, at and below the paths that match a pattern, or
+    else the path at which the source begins."""
     explicit, tree = history.explicit, history.tree
     matching = {path for pattern in patterns for path in tree.matching(pattern)}
     for pattern in unmatched(tree, patterns, history.head):

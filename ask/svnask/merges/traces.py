@@ -50,8 +50,8 @@ class Cut(NamedTuple):
         return parts[0] if len(parts) == 1 else [rev for part in reversed(parts) for rev in part]
 
     def path_before(self, rev: int) -> bytes | None:
-        """Where the path was in the newest revision that is listed before one, or else in the oldest one. The first
-        revision of a segment is listed."""
+        """Return where the path was in the newest revision that is listed before one, or else in the oldest one. The
+        first revision of a segment is listed."""
         if self.least:
             return self.segments[0].path
         return next((segment.path for segment in self.segments if segment.lo < rev), self.segments[-1].path)

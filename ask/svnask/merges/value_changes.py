@@ -21,7 +21,7 @@ SIMPLE = re.compile(rb"[0-9]{1,9}(?:-[0-9]{1,9})?(?:,[0-9]{1,9}(?:-[0-9]{1,9})?)
 
 
 class Difference(NamedTuple):
-    """What mergeinfo gained, and what it lost."""
+    """The ranges that mergeinfo gained, and those that it lost."""
 
     gained: Intervals
     lost: Intervals
@@ -60,7 +60,7 @@ class Values:
         self.whole = functools.lru_cache(RECENT)(self._whole)
 
     def difference(self, before: bytes, now: bytes) -> Difference:
-        """What a path gained and lost that has one text and then another one. `Malformed` where either is."""
+        """Return what a path gained and lost that has one text and then another one. `Malformed` where either is."""
         # A log mostly goes back.
         is_back = id(before) not in self._plain
         known, other = (now, before) if is_back else (before, now)
@@ -83,7 +83,7 @@ class Values:
         return is_plain
 
     def _is_like_last(self, text: bytes) -> bool:
-        """Whether a text has plain lines where it is not as the last one that has."""
+        """Return whether a text has plain lines where it is not as the last one that has."""
         try:
             differing(self._last, text)
         except ValueError:
@@ -91,7 +91,7 @@ class Values:
         return True
 
     def _whole(self, text: bytes) -> Intervals:
-        """What a text says, whether it is inherited or not."""
+        """Return what a text says, whether it is inherited or not."""
         found: Intervals = {}
         for line in self._of(text):
             before = found.get(line.path)
@@ -99,7 +99,7 @@ class Values:
         return found
 
     def inheritable(self, text: bytes, rest: bytes = b"") -> Intervals:
-        """What a path below that has the text inherits."""
+        """Return what a path below that has the text inherits."""
         found: Intervals = {}
         for line in self._of(text):
             if line.inheritable:
@@ -120,7 +120,7 @@ class Values:
 
 
 def line_in(text: bytes) -> ValueLine:
-    """What a line says. `ValueError` where Subversion can't read it."""
+    """Return what a line says. `ValueError` where Subversion can't read it."""
     name, _, ranges = text.rpartition(b":")
     simple = simple_runs(ranges)
     if simple is not None and name.startswith(b"/"):
@@ -133,7 +133,7 @@ def line_in(text: bytes) -> ValueLine:
 
 
 def simple_runs(ranges: bytes) -> list[Interval] | None:
-    """What most rangelists say: those without `*` that rise. Runs that touch are one."""
+    """Return what most rangelists say: those without `*` that rise. Runs that touch are one."""
     if not SIMPLE.match(ranges):
         return None
     found: list[Interval] = []
@@ -195,7 +195,7 @@ def rangelists_of(lines: list[bytes]) -> dict[bytes, bytes]:
 
 
 def read_lines(lines: dict[bytes, bytes]) -> Intervals:
-    """What lines say. `ValueError` where one is not plain."""
+    """Return what lines say. `ValueError` where one is not plain."""
     found = {}
     for path, ranges in lines.items():
         line = line_in(b"%s:%s" % (path, ranges))
@@ -216,13 +216,13 @@ def cut_ranges(these: bytes, those: bytes) -> tuple[bytes, bytes]:
 
 
 def front(these: bytes, those: bytes) -> int:
-    """How far two rangelists have ranges in common, but for the last one of these."""
+    """Return how far two rangelists have ranges in common, but for the last one of these."""
     end = these.rfind(b",", 0, common_length(these, those))
     return these.rfind(b",", 0, max(end, 0)) + 1
 
 
 def common_length(these: bytes, those: bytes) -> int:
-    """How many bytes two texts have in common at their begin."""
+    """Return how many bytes two texts have in common at their begin."""
     low, high = 0, min(len(these), len(those))
     while low < high:
         middle = (low + high + 1) // 2
@@ -234,7 +234,7 @@ def common_length(these: bytes, those: bytes) -> int:
 
 
 def common_at_end(these: bytes, those: bytes) -> int:
-    """How many bytes two texts have in common at their end."""
+    """Return how many bytes two texts have in common at their end."""
     length, other = len(these), len(those)
     low, high = 0, min(length, other)
     while low < high:
@@ -247,7 +247,7 @@ def common_at_end(these: bytes, those: bytes) -> int:
 
 
 class MergeinfoChanges:
-    """What the mergeinfo of paths gained and lost, revision by revision."""
+    """The changes of the mergeinfo of paths, revision by revision."""
 
     def __init__(self, history: OpenHistory, explicit: Explicit, traces: Traces) -> None:
         self._history = history
@@ -263,7 +263,7 @@ class MergeinfoChanges:
         return self._explicit.settings
 
     def of_paths(self, paths: Sequence[bytes], rev: int) -> Difference:
-        """What the mergeinfo at and below some paths gained and lost in a revision that has any."""
+        """Return what the mergeinfo at and below some paths gained and lost in a revision that has any."""
         found = Difference({}, {})
         changed = self._changed(rev) if any(self._may_change(path, rev) for path in paths) else {}
         if changed:
@@ -276,12 +276,12 @@ class MergeinfoChanges:
         return found
 
     def _may_change(self, path: bytes, rev: int) -> bool:
-        """Whether a revision gave mergeinfo to a path below or above one or to itself, or made one of these."""
+        """Return whether a revision gave mergeinfo to a path below or above one or to itself, or made one of these."""
         near = (is_at_or_below(each, path) or is_at_or_below(path, each) for each in self._explicit.settings[rev])
         return any(near) or self._history.tree.is_made(path, rev)
 
     def _changed(self, rev: int) -> dict[bytes, Difference]:
-        """What each changed path gained and lost: none where any of their values is malformed."""
+        """Return what each changed path gained and lost: none where any of their values is malformed."""
         if rev not in self._known:
             try:
                 self._known[rev] = dict(self._differences(rev))
@@ -313,7 +313,7 @@ class MergeinfoChanges:
                 yield change.path, self._base(change.path, rev) if change.letter == "M" else change.source
 
     def _base(self, path: bytes, rev: int) -> Place:
-        """Where a path was before a revision, or what it was copied from in it."""
+        """Return where a path was before a revision, or what it was copied from in it."""
         if rev not in self._copies:
             is_new = any(change.letter in ("A", "R") for change in self._history.changes(rev))
             records = self._history.records(rev, rev) if is_new else ()
@@ -363,7 +363,8 @@ def difference(old: Intervals | None, new: Intervals | None) -> Difference:
 
 
 def left_of(these: Intervals, those: Intervals) -> Intervals:
-    """What some mergeinfo has and other has not. A path that only the one has is there without revisions, too."""
+    """Return what some mergeinfo has and other has not. A path that only the one has is there without revisions,
+    too."""
     found = {}
     for path, intervals in these.items():
         other = those.get(path)

@@ -35,7 +35,7 @@ def fitted(found: Drawable, height: int) -> Graph:
 
 
 def height_of(graph: Graph) -> int:
-    """How many pixels the lanes take, or what lies between them has to have."""
+    """Return how many pixels the lanes take, or what lies between them has to have."""
     layout = Layout(graph)
     pairs = [(copy.lane, copy.source) for copy in graph.copies if copy.source is not None]
     pairs += {(merge.target, merge.source) for merge in graph.merges}

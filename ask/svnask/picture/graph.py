@@ -41,7 +41,7 @@ class Lane(NamedTuple):
 
 
 class LaneCopy(NamedTuple):
-    """How a lane began. `source` is the lane that was copied, whole or in part, if it is one."""
+    """The begin of a lane. `source` is the lane that was copied, whole or in part, if it is one."""
 
     life: Life
     lane: int
@@ -49,9 +49,9 @@ class LaneCopy(NamedTuple):
 
 
 class LaneMerge(NamedTuple):
-    """What a revision of a lane gained of another lane: an arrow from the newest revision. See `Gain`. Where what was
-    merged, or what it was merged into, is below the paths of the lanes, `of` and `into` are its path. `is_record_only`
-    says that the revision changed only mergeinfo there."""
+    """A merge into a lane: an arrow from the newest revision. See `Gain`. `of` and `into` are the merged path and the
+    path merged into, where they are below those of the lanes. `is_record_only` says that the revision changed only
+    mergeinfo there."""
 
     source: int
     target: int
@@ -73,8 +73,8 @@ class Dot(NamedTuple):
 
 
 class View(NamedTuple):
-    """What is drawn of a history: the first revision, whether columns are parts of the time, how many there are at most,
-    and whether lanes that end leave room for others."""
+    """The part of a history that is drawn: its first revision, whether columns are parts of the time, how many there
+    are at most, and whether lanes that end leave room for others."""
 
     since: int = 0
     is_by_time: bool = False
@@ -83,8 +83,7 @@ class View(NamedTuple):
 
 
 class LeftOut(NamedTuple):
-    """What is left out of a graph: how many lanes, how many merges that came with others, and how high a picture with
-    these is."""
+    """The lanes and merges that a graph leaves out: how many of each, and the height of a picture that has them."""
 
     lanes: int
     carried: int
@@ -113,7 +112,7 @@ class Graph(NamedTuple):
 
 
 class Drawable(NamedTuple):
-    """What can be drawn of a history: the lanes from the top, and what they gained."""
+    """The drawable part of a history: the lanes from the top, and what they gained."""
 
     history: OpenHistory
     view: View
@@ -139,7 +138,7 @@ def graph_of(history: OpenHistory, patterns: Sequence[bytes], view: View = View(
 
 
 def drawable(history: OpenHistory, patterns: Sequence[bytes], view: View = View()) -> Drawable:
-    """What can be drawn of the lives of all paths that match a pattern."""
+    """Return what can be drawn of the lives of all paths that match a pattern."""
     tree, explicit = history.tree, history.explicit
     lives = branches.lives_of(history, patterns)
     parts = Parts(tree, explicit, Finder(lives), history.head)
@@ -163,7 +162,7 @@ def drawable(history: OpenHistory, patterns: Sequence[bytes], view: View = View(
 
 
 def is_since(life: Life, since: int) -> bool:
-    """Whether a life is there in a revision or a later one, or ends with the revision."""
+    """Return whether a life is there in a revision or a later one, or ends with the revision."""
     return life.is_alive or life.last + 1 >= since
 
 
@@ -189,7 +188,7 @@ def copied_since(lanes: list[Lane], since: int) -> Iterator[Life]:
 
 
 def cut_lane(lane: Lane, since: int) -> Lane:
-    """What a lane has from a revision on."""
+    """Return what a lane has from a revision on."""
     lives = [life for life in lane.lives if is_since(life, since)]
     return lane._replace(lives=lives, revisions=lane.revisions[bisect.bisect_left(lane.revisions, since) :])
 
@@ -238,8 +237,8 @@ class Finder:
 
 
 class Parts:
-    """What is below lanes and was merged, or merged into: the lives of what has mergeinfo of its own, and of what is
-    named by mergeinfo. `wholes` has the life at or below which each of them is."""
+    """The paths below lanes that were merged, or merged into. These have mergeinfo of their own, or are named by some.
+    `wholes` has the life at or below which each of them is."""
 
     def __init__(self, tree: Tree, explicit: Explicit, finder: Finder, head: int) -> None:
         self._tree, self._explicit, self._finder, self._head = tree, explicit, finder, head
@@ -295,7 +294,7 @@ class Parts:
         return self.wholes.get(life, life)
 
     def is_none(self, gain: Gain) -> bool:
-        """Whether neither side of a gain is a part."""
+        """Return whether neither side of a gain is a part."""
         return gain.source not in self.wholes and gain.target not in self.wholes
 
     def without_repeated(self, gains: Sequence[Gain]) -> Iterator[Gain]:
@@ -329,7 +328,7 @@ class Parts:
 
 
 def said_of(gains: Iterable[Gain]) -> dict[tuple[bytes, bytes, int], set[int]]:
-    """What each path gained of each other one, by the revision that gained it."""
+    """Return what each path gained of each other one, by the revision that gained it."""
     found: dict[tuple[bytes, bytes, int], set[int]] = {}
     for gain in gains:
         found.setdefault((gain.source.path, gain.target.path, gain.rev), set()).update(gain.revisions)
@@ -337,7 +336,7 @@ def said_of(gains: Iterable[Gain]) -> dict[tuple[bytes, bytes, int], set[int]]:
 
 
 def gained_of(gains: Iterable[Gain]) -> dict[tuple[Life, int], list[Gain]]:
-    """What each revision of each target gained."""
+    """Return what each revision of each target gained."""
     found: dict[tuple[Life, int], list[Gain]] = {}
     for gain in gains:
         found.setdefault((gain.target, gain.rev), []).append(gain)

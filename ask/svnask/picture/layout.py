@@ -34,7 +34,7 @@ class LanePlace(NamedTuple):
 
 
 class Extent(NamedTuple):
-    """What a lane takes of a row, from where its copy arrives."""
+    """The part of a row that a lane takes, from where its copy arrives."""
 
     start: float
     end: float
@@ -141,7 +141,7 @@ class Layout:
 
     @property
     def right(self) -> float:
-        """Where the lines end of what is still there."""
+        """Return where the lines end of what is still there."""
         return self.x(max(len(self._graph.columns) - 1, 0)) + RIGHT
 
     def x(self, column: int) -> float:
@@ -154,15 +154,15 @@ class Layout:
         return LanePlace(self.x(self._graph.column_of(rev)), self.y(lane))
 
     def end(self, lane: int) -> float:
-        """Where the line of a lane ends."""
+        """Return where the line of a lane ends."""
         return self.left + self._ends[lane]
 
     def source(self, copy: LaneCopy) -> LanePlace | None:
-        """Where the curve of a copy begins, if its source has a lane: at the source's revision."""
+        """Return where the curve of a copy begins, if its source has a lane: at the source's revision."""
         return None if copy.source is None else LanePlace(self._x_of_source(copy), self.y(copy.source))
 
     def turn(self, copy: LaneCopy) -> float:
-        """Where that curve meets the line of the copy."""
+        """Return where that curve meets the line of the copy."""
         to = self.x(self._graph.column_of(copy.life.first))
         return to - 0.6 * self.step if copy.source is None else min(self._x_of_source(copy) + self.step, to)
 
@@ -175,7 +175,7 @@ class Layout:
         return found[::-1]
 
     def _names_on_line(self, lane: int) -> Iterator[tuple[LanePlace, str]]:
-        """Where a line gets another name, and far from where its name stands already."""
+        """Yield the places at which a line gets another name, or is far from the name that it has."""
         lives = self._graph.lanes[lane].lives
         before = self.left if lane in self.names else float("-inf")
         for life, ends in zip(lives, [self.at(lane, life.first).x for life in lives[1:]] + [self.end(lane)]):
@@ -211,7 +211,7 @@ class Layout:
                 self._ends[row.lanes[0]] = self.right
 
     def is_cut(self, lane: int) -> bool:
-        """Whether a branch is still there, but its line ends."""
+        """Return whether a branch is still there, but its line ends."""
         lives, kind, _ = self._graph.lanes[lane]
         return kind == BRANCH and lives[-1].is_alive and self.end(lane) < self.right
 

@@ -242,7 +242,7 @@ class Picture:
 
 
 def arrow_style(merge: LaneMerge) -> str:
-    """How the line of an arrow looks."""
+    """Return how the line of an arrow looks."""
     if merge.is_carried:
         return "carried"
     return "lost" if merge.lost is not None else "recorded" if merge.is_record_only else "merged"
@@ -295,7 +295,7 @@ MARKS = (
 
 
 def about_left(left: LeftOut | None) -> str:
-    """How much is left out, and by which option it comes back."""
+    """Return how much is left out, and by which option it comes back."""
     if left is None:
         return ""
     parts = [
@@ -306,7 +306,7 @@ def about_left(left: LeftOut | None) -> str:
 
 
 class Legend(NamedTuple):
-    """What the marks mean, in rows of as many as have room, and how much room that takes."""
+    """The legend of the marks, in rows of as many as have room, and its size."""
 
     text: str
     width: float

@@ -58,7 +58,7 @@ def span_of(life: Life) -> str:
 
 
 class Titles:
-    """What is shown of each mark under the pointer."""
+    """The texts that are shown under the pointer."""
 
     def __init__(self, history: OpenHistory, graph: Graph) -> None:
         self._history = history

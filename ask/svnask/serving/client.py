@@ -24,7 +24,7 @@ OWN = frozenset(("-", "-h", "--help", "-V", "--version", "--no-cache"))
 
 
 class ServerReply(NamedTuple):
-    """What a server says: a status, lines for standard error, and a file with what goes to standard output."""
+    """The reply of a server: a status, lines for standard error, and a file with what goes to standard output."""
 
     status: int
     said: list[str]
@@ -118,8 +118,7 @@ def print_reply(reply: ServerReply) -> int:
 
 
 def status_of_server(words: Sequence[str]) -> int | None:
-    """Has a server answer a question, and gives the status. Where there is None, the question is still to be
-    answered."""
+    """Let a server answer a question, and return the status, or None where the question is still to be answered."""
     if sys.stdout is None:
         return None
     reply = ask_server(words)

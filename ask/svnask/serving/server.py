@@ -223,7 +223,7 @@ class Server:
     def _told_unless_gone(
         self, connection: socket.socket, words: list[str], output: IO[bytes]
     ) -> running.Ending | None:
-        """How a question ends. None also where the caller went meanwhile."""
+        """Return how a question ends. None also where the caller went meanwhile."""
         try:
             with Caller(connection, self._source.rest):
                 return self._told(words, output)
@@ -233,8 +233,8 @@ class Server:
             return None
 
     def _told(self, words: list[str], output: IO[bytes]) -> running.Ending | None:
-        """How a question ends. None where that is for the caller to find out: it is no question to this server, or
-        something failed."""
+        """Return how a question ends. None where that is for the caller to find out: it is no question to this server,
+        or something failed."""
         notes = io.StringIO()
         try:
             given = parsed(words)
@@ -264,8 +264,8 @@ def noted(notes: io.StringIO) -> list[str]:
 
 
 def is_for_server(given: argparse.Namespace) -> bool:
-    """Whether a call is a question that a server answers: one that names no file of the caller's own, as /dev/stdin
-    is."""
+    """Return whether a call is a question that a server answers: one that names no file of the caller's own, as
+    /dev/stdin is."""
     if not verb_named(given.verb).needs_history or given.no_cache:
         return False
     paths = [given.dump] if "://" not in given.dump else []
@@ -275,7 +275,7 @@ def is_for_server(given: argparse.Namespace) -> bool:
 
 
 def is_of_process(name: str) -> bool:
-    """Whether a name, or one that it is a link to, may mean another file in another process."""
+    """Return whether a name, or one that it is a link to, may mean another file in another process."""
     for _ in range(LINKS):
         folder = os.path.realpath(os.path.dirname(os.path.abspath(name)))
         if folder.split("/")[1] in ("dev", "proc"):

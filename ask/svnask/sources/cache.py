@@ -34,7 +34,7 @@ UNITS = {"": 0, "K": 10, "M": 20, "G": 30}
 
 
 def limit() -> int:
-    """How many bytes all copies may have."""
+    """Return how many bytes all copies may have."""
     named = os.environ.get("SVNASK_CACHE_SIZE", "")
     found = SIZE.match(named)
     if named and found is None:
@@ -43,7 +43,7 @@ def limit() -> int:
 
 
 def is_own(path: str) -> bool:
-    """Whether a folder, and the one that it is in, were made by this user or the administrator."""
+    """Return whether a folder, and the one that it is in, were made by this user or the administrator."""
     statuses = [os.lstat(path), os.stat(os.path.dirname(path))]
     return all(stat.S_ISDIR(each.st_mode) and each.st_uid in (ROOT, os.geteuid()) for each in statuses)
 
@@ -99,7 +99,7 @@ def remove_unless_locked(path: str) -> None:
 
 
 def size_of(path: str) -> int:
-    """How many bytes the files of a folder have."""
+    """Return how many bytes the files of a folder have."""
     with contextlib.suppress(OSError), os.scandir(path) as found:
         return sum(each.stat().st_size for each in found)
     return 0

@@ -22,8 +22,8 @@ HEADERS = 512
 
 
 class State(NamedTuple):
-    """What tells cheaply whether a file was changed: which one it is, its size and times, and what stands at its ends
-    and at the end of a part of it."""
+    """The state of a file, by which a change is cheaply seen. It has the identity, size and times, and what stands at
+    the ends of the file and of a part of it."""
 
     device: int
     inode: int
@@ -122,7 +122,7 @@ class Dump(Source):
         return entry.commit(grown) if grown.is_whole else None
 
     def _has_grown(self, kept: Store) -> bool:
-        """Whether the file is the one of which there is a copy, with something added at its end."""
+        """Return whether the file is the one of which there is a copy, with something added at its end."""
         before, size = state_in(kept.index.kept.state), kept.index.size
         now = self.state(size)
         if before is None or os.fstat(self.given.fileno()).st_size <= size:
@@ -131,7 +131,7 @@ class Dump(Source):
         return is_same and all(map(self._has_block, map(kept.section, range(kept.head + 1)), range(kept.head + 1)))
 
     def _has_block(self, block: tuple[int, bytes], rev: int) -> bool:
-        """Whether a revision stands where it did, with the same properties."""
+        """Return whether a revision stands where it did, with the same properties."""
         at, section = block
         found = os.pread(self.given.fileno(), HEADERS + len(section), at).lstrip(b"\n")
         end = found.find(b"\n\n") + 2

@@ -67,7 +67,7 @@ class Entry:
 
     @contextlib.contextmanager
     def locked(self, waits: Callable[[], object] = lambda: None) -> Iterator[None]:
-        """Has no other run change the entry meanwhile. `waits` is called where another one does."""
+        """Lock the entry against other runs. `waits` is called where another one has the lock."""
         with self._lock() as file:
             try:
                 fcntl.flock(file, fcntl.LOCK_EX | fcntl.LOCK_NB)
@@ -93,7 +93,7 @@ class Entry:
         raise FileNotFoundError(self.folder)
 
     def _is_lock(self, file: BinaryIO) -> bool:
-        """Whether a file is still that of the lock. The folder may have been taken out of the cache."""
+        """Return whether a file is still that of the lock. The folder may have been taken out of the cache."""
         try:
             return os.path.samestat(os.stat(self.path(cache.LOCK)), os.fstat(file.fileno()))
         except FileNotFoundError:
@@ -171,7 +171,8 @@ T = TypeVar("T")
 
 
 def read_by(reader: Callable[[BinaryIO], T], folder: str) -> T | None:
-    """What is read of the index in a folder of the cache, if that is this user's and it is one of this version."""
+    """Return what is read of the index in a folder of the cache, if that is this user's and it is one of this
+    version."""
     try:
         if not cache.is_own(folder):
             return None

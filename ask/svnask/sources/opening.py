@@ -63,7 +63,7 @@ def about_folder(name: str) -> str:
 
 
 def with_properties(source: Source, progress: Progress) -> None:
-    """Has the copy of a repository in the cache have the properties that all revisions have now."""
+    """Renew the properties of all revisions in the copy of a repository."""
     entry = source.entry()
     sections = source.new_properties()
     if entry is None:
@@ -100,7 +100,7 @@ def rewritten(kept: Store, sections: Iterable[tuple[int, bytes]], file: IO[bytes
 
 
 class StoredSource(NamedTuple):
-    """What is kept of a source."""
+    """A source of which the cache has a copy."""
 
     kind: str
     place: bytes

@@ -63,7 +63,7 @@ class Bar(Progress):
             say(f"svnask: waiting for another run, which reads {name}")
 
     def _seconds(self) -> float:
-        """How long reading has taken so far, where the line is to be written anew."""
+        """Return how long reading has taken so far, where the line is to be written anew."""
         now = time.monotonic()
         if now - self._begun < 1 or now - self._shown < 0.1 or sys.stderr is None or not sys.stderr.isatty():
             return 0

@@ -40,7 +40,7 @@ class SubversionSource(Source):
 
     @contextmanager
     def advised(self) -> Iterator[None]:
-        """Has a failure tell what is possible without the repository, where something is kept."""
+        """Add to a failure what is possible without the repository, where the cache has a copy."""
         try:
             yield
         except Error as error:
@@ -88,7 +88,7 @@ class SubversionSource(Source):
         return self.now.youngest == kept.head and self._is_same(kept)
 
     def _is_same(self, kept: Store) -> bool:
-        """Whether the repository is the one of which there is a copy, and its last revision as it was."""
+        """Return whether the repository is the one of which there is a copy, and its last revision as it was."""
         if self.now.uuid != kept.index.uuid or not 0 <= kept.head <= self.now.youngest:
             return False
         if self._last[0] != kept.head:
@@ -98,7 +98,8 @@ class SubversionSource(Source):
         return normal(self._last[1]) == normal(properties_of(kept.section(kept.head)[1]))
 
     def _shows_more(self, kept: Store) -> bool:
-        """Whether a revision has a date that had none. So it is after a user was given rights to what it changed."""
+        """Return whether a revision has a date that had none. So it is after a user was given rights to what it
+        changed."""
         undated = kept.index.undated
         if undated and self._is_more is None:
             self._is_more = self.svn.has_date(self.root, undated)

@@ -37,7 +37,7 @@ class Source:
 
     @property
     def is_remote(self) -> bool:
-        """Whether a server is asked."""
+        """Return whether a server is asked."""
         return bool(self.root) and not self.root.startswith("file:")
 
     def entry(self) -> Entry | None:
@@ -72,7 +72,7 @@ class Source:
         return self._current(entry) or self._updated(entry, progress)
 
     def _current(self, entry: Entry) -> Store | None:
-        """What is kept, if nothing has changed since."""
+        """Return what is kept, if nothing has changed since."""
         kept = entry.load()
         if kept is None:
             return None
@@ -99,7 +99,7 @@ class Source:
             return self.read(progress)
 
     def _grown(self, entry: Entry, progress: Progress) -> Store | None:
-        """What is kept, with what is new."""
+        """Return what is kept, with what is new."""
         kept = entry.load()
         entry.clear(kept.index.kept.generation if kept is not None else 0)
         if kept is None:
@@ -125,7 +125,7 @@ class Source:
             raise
 
     def is_as_kept(self, kept: Store) -> bool:
-        """Whether nothing has changed since the copy was made."""
+        """Return whether nothing has changed since the copy was made."""
         raise NotImplementedError
 
     def grown(self, entry: Entry, kept: Store, progress: Progress) -> Store | None:
@@ -149,7 +149,7 @@ class Source:
 
 
 def known_of(index: Index) -> Copy:
-    """What is known of a copy that goes on."""
+    """Return what is known of a copy that goes on."""
     copy = Copy(index.format, index.uuid)
     copy.records = copy.records_before = index.records
     copy.revisions, copy.renewals = list(index.revisions), list(index.renewals)
@@ -159,7 +159,7 @@ def known_of(index: Index) -> Copy:
 
 
 def index_of_copy(copy: Copy, size: int, kept: Kept) -> Index:
-    """What is known of a copy that was made. All of it is in the first file, unless that has a length."""
+    """Return what is known of a copy that was made. All of it is in the first file, unless that has a length."""
     return Index(
         copy.format,
         copy.uuid or b"",

@@ -40,7 +40,7 @@ Properties = dict[bytes, bytes]
 
 
 class Repository(NamedTuple):
-    """Where a repository is, which one it is, and its youngest revision."""
+    """A repository: the URL of its root, its UUID, and its youngest revision."""
 
     root: str
     uuid: bytes
@@ -82,7 +82,8 @@ class Subversion(NamedTuple):
             return max((int(each.attrib["revision"]) for each in elements(stream, "logentry")), default=0)
 
     def has_date(self, url: str, runs: Sequence[tuple[int, int]]) -> bool:
-        """Whether one of some revisions has a date. It has none as long as a user may not read what it changed."""
+        """Return whether one of some revisions has a date. It has none as long as a user may not read what it
+        changed."""
         words = ["-r", f"{runs[0][0]}:{runs[-1][1]}"]
         if sum(last - first + 1 for first, last in runs) <= MOST_NAMED:
             words = ["-c", ",".join(str(rev) for first, last in runs for rev in range(first, last + 1))]
@@ -179,7 +180,7 @@ def elements(stream: IO[bytes], tag: str) -> Iterator[xml.Element]:
 
 @contextmanager
 def output_of(*words: str, is_read_whole: bool = True) -> Iterator[IO[bytes]]:
-    """What a command prints, which has ended well at the end, or its failure is raised. It may ask for a password on the
+    """Run a command, and yield its output. A failure is raised at the end. The command may ask for a password on the
     terminal, which is also its standard input."""
     with tempfile.TemporaryFile() as errors:
         try:

@@ -65,7 +65,7 @@ class LogVerb(Verb):
             parser.add_argument(option, dest="groups", metavar="PATTERN", action=SearchAction, default=[], help=about)
 
     def options(self, history: OpenHistory, given: Namespace) -> log.Options:
-        """Which revisions are asked for."""
+        """Return the options that choose revisions."""
         limit = None
         if given.limit is not None:
             found = LIMIT.match(given.limit)
@@ -139,7 +139,7 @@ def glob_of(word: str) -> Glob:
 
 
 def wanted_of(given: Namespace) -> Wanted:
-    """What is shown of each revision. Of these three options the first one holds."""
+    """Return what is shown of each revision. Of these three options the first one holds."""
     groups: list[Group] = [[*map(glob_of, group)] for group in given.groups]
     if not given.xml:
         for name, value in (

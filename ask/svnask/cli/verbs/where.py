@@ -17,7 +17,8 @@ class WhereVerb(Verb):
         parser.add_argument("revision", metavar="REV", help="the other revision")
 
     def answer(self, history: OpenHistory, given: Namespace) -> bytes | None:
-        """Where the target was in a revision. In a later one it is at its own path, if what is there comes from it."""
+        """Return where the target was in a revision. In a later one it is at its own path, if what is there comes from
+        it."""
         target = target_of(history, given.target)
         rev = known(history, revision_of(history, given.revision))
         earlier, later = Locate(*target, min(rev, target.rev)), Locate(target.path, max(rev, target.rev), target.rev)
