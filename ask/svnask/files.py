@@ -1,12 +1,24 @@
 """Files of the cache, and where that is. Little is imported, since each question looks there first."""
 from __future__ import annotations
 
+import contextlib
 import errno
 import os
 import stat
+from typing import TYPE_CHECKING
+
+from svnask.lazy import Lazy
+
+if TYPE_CHECKING:
+    import shutil
+    import tempfile
+else:
+    shutil, tempfile = Lazy("shutil"), Lazy("tempfile")
 
 # How the names of the sockets of servers begin.
 SOCKET = "socket-"
+# How the names of the folders of runs begin.
+NEW = "new-"
 
 
 def opener(path: str, flags: int) -> int:
@@ -32,3 +44,12 @@ def cache_folder() -> str | None:
     named = os.environ.get("XDG_CACHE_HOME", "")
     base = named if os.path.isabs(named) else os.path.join(os.path.expanduser("~"), ".cache")
     return os.path.join(base, "svnhist") if os.path.isabs(base) else None
+
+
+def remove(path: str) -> None:
+    """Takes a folder out of the cache. Runs that have it open go on with it."""
+    with contextlib.suppress(OSError):
+        aside = tempfile.mkdtemp(prefix=NEW, dir=os.path.dirname(path))
+        with contextlib.suppress(OSError):
+            os.rename(path, os.path.join(aside, "old"))
+        shutil.rmtree(aside, ignore_errors=True)

@@ -3,11 +3,9 @@ from __future__ import annotations
 
 import argparse
 import os
-import signal
 import sys
 from collections.abc import Iterator
-from contextlib import closing
-from typing import Callable, NamedTuple, NoReturn
+from typing import Callable, NamedTuple
 
 from svnask.asking.refusals import about_record, explained
 from svnask.asking.verb import object_line

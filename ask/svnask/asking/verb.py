@@ -31,19 +31,19 @@ class Verb:
     judges = True
 
     def arguments(self, parser: ArgumentParser) -> None:
-        """Tells the parser what follows the verb."""
+        """Tell the parser what follows the verb."""
 
     def text(self, history: OpenHistory, given: Namespace) -> Iterator[bytes]:
-        """Return what is printed, piece after piece."""
-        raise NotImplementedError
+        """Return what is printed about an open history, piece after piece."""
+        return iter(())
 
     def objects(self, history: OpenHistory, given: Namespace) -> Iterator[Object]:
-        """The same for a script, one object a line."""
-        raise NotImplementedError
+        """Return the same for a script, one object a line."""
+        return iter(())
 
     def run(self, given: Namespace) -> int:
         """Do what needs no open history, and return the status."""
-        raise NotImplementedError
+        return 0
 
 
 def write_all(pieces: Iterable[bytes]) -> int:

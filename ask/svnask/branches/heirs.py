@@ -26,7 +26,7 @@ class Heir(NamedTuple):
     way: list[Step]
 
 
-class Candidates:
+class PossibleHeirs:
     """The paths that may have come from a target, by all copies up to a revision.
 
     They are more than did: that a path ended before it was copied is left to svnhist.
@@ -92,7 +92,7 @@ def moved_copies(history: OpenHistory, copies: Iterable[tuple[int, Place]]) -> s
 def heirs(history: OpenHistory, target: Target, last: int) -> Iterator[Heir]:
     """The paths of a revision that were the target in its peg revision, in the order of paths. The way of each is not
     held: in a chain of copies all of them are as long as the square of the chain."""
-    candidates = Candidates(history.records(), target, last)
+    candidates = PossibleHeirs(history.records(), target, last)
     queries = [Where(path, last) for path in history.askable(candidates.paths)]
     is_move: dict[tuple[int, Place], bool] = {}
     for query, answer in zip(queries, history.ask(queries)):

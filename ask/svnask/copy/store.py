@@ -16,7 +16,6 @@ from svnask.copy.strip import LAST_LINE, MERGEINFO, ONE_MERGEINFO, Malformed, bo
 from svnask.errors import Damaged
 from svnask.lazy import Lazy
 from svnask.paths import clean
-from svnask.sources import cache
 
 if TYPE_CHECKING:
     import shutil
@@ -252,7 +251,7 @@ class Store:
     def forget(self) -> None:
         """Takes the folder out of the cache, where it is kept."""
         if self.is_kept:
-            cache.remove(self._folder)
+            files.remove(self._folder)
 
     @property
     def head(self) -> int:

@@ -11,7 +11,7 @@ from svnask.texts import readable
 MOST_LISTED = 24
 
 
-def shortened(revisions: list[int]) -> str:
+def newest_named(revisions: list[int]) -> str:
     """Rising revisions, of many only the newest ones."""
     shown = ", ".join(f"r{rev}" for rev in revisions[-MOST_LISTED:])
     more = len(revisions) - MOST_LISTED
@@ -82,7 +82,7 @@ class Titles:
             name_at(source, merge.revisions[-1]) if merge.of is None else readable(merge.of),
             name_at(target, merge.rev) if merge.into is None else readable(merge.into),
         )
-        text = "r%d: %s of %s into %s" % (merge.rev, shortened(merge.revisions), *names)
+        text = "r%d: %s of %s into %s" % (merge.rev, newest_named(merge.revisions), *names)
         if merge.is_record_only:
             text += ", only recorded as merged"
         if merge.is_carried:
@@ -101,7 +101,7 @@ class Titles:
         newest = dot.revisions[-1]
         lines = [name_at(self._graph.lanes[dot.lane], newest), about_revision(self._history, newest)]
         if len(dot.revisions) > 1:
-            lines.append("with %s" % shortened(dot.revisions[:-1]))
+            lines.append("with %s" % newest_named(dot.revisions[:-1]))
         return "\n".join(lines + [note for rev in dot.revisions for note in self._notes.get((dot.lane, rev), [])])
 
 

@@ -8,22 +8,12 @@ import re
 import stat
 import time
 from collections.abc import Iterator
-from typing import TYPE_CHECKING
 
 from svnask.errors import Failed
-from svnask.files import opener
-from svnask.lazy import Lazy
-
-if TYPE_CHECKING:
-    import shutil
-    import tempfile
-else:
-    shutil = Lazy("shutil")
-    tempfile = Lazy("tempfile")
+from svnask.files import NEW, opener, remove
 
 LOCK = "lock"
-# How the folders of runs begin. They are given up after a day, and others are where they were not used for 30.
-NEW = "new-"
+# The folders of runs are given up after a day, and others where they were not used for 30.
 UNFINISHED, UNUSED = 86400, 30 * 86400
 # The number of the administrator.
 ROOT = 0
@@ -103,12 +93,3 @@ def size_of(path: str) -> int:
     with contextlib.suppress(OSError), os.scandir(path) as found:
         return sum(each.stat().st_size for each in found)
     return 0
-
-
-def remove(path: str) -> None:
-    """Takes a folder out of the cache. Runs that have it open go on with it."""
-    with contextlib.suppress(OSError):
-        aside = tempfile.mkdtemp(prefix=NEW, dir=os.path.dirname(path))
-        with contextlib.suppress(OSError):
-            os.rename(path, os.path.join(aside, "old"))
-        shutil.rmtree(aside, ignore_errors=True)

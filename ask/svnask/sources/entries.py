@@ -164,7 +164,7 @@ class Entry:
         return made
 
     def forget(self) -> None:
-        cache.remove(self.folder)
+        files.remove(self.folder)
 
 
 T = TypeVar("T")

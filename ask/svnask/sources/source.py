@@ -6,6 +6,7 @@ from collections.abc import Iterable
 from contextlib import ExitStack, closing
 from typing import IO, TYPE_CHECKING
 
+from svnask import files
 from svnask.copy.store import Index, Kept, Store
 from svnask.copy.strip import Copy
 from svnask.errors import Failed, Usage
@@ -138,7 +139,7 @@ class Source:
             index = self.copied(file, kept, progress)
         if index.is_whole:
             return entry.commit(index)
-        folder = tempfile.mkdtemp(prefix=cache.NEW, dir=os.path.dirname(entry.folder))
+        folder = tempfile.mkdtemp(prefix=files.NEW, dir=os.path.dirname(entry.folder))
         generation = index.kept.generation
         os.rename(entry.path(f"dump.{generation}"), os.path.join(folder, f"dump.{generation}"))
         return Store(folder, index, False)
