@@ -76,7 +76,7 @@ class CompletionTest(base.UtcTest):
 class NewVerb(SegmentsVerb):
     """A verb that is new."""
 
-    def arguments(self, parser: ArgumentParser) -> None:
+    def arguments(self, parser: ArgumentParser) -> None:  # pylint: disable=redefined-outer-name
         parser.add_argument("target", metavar="TARGET[@PEG]")
         parser.add_argument("--brand", metavar="PATH[@PEG]")
 

@@ -23,6 +23,8 @@ Object = dict[str, Any]
 class Verb:
     """A verb of the command."""
 
+    # pylint: disable=unused-argument
+
     # How it is called, if not after a SOURCE.
     usage: str | None = None
     # Whether it is a question about an open history. Others run by themselves.

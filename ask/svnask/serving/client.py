@@ -85,18 +85,18 @@ def ask_server(words: Sequence[str]) -> ServerReply | None:
 def reply_of(connection: socket.socket) -> ServerReply | None:
     """The reply of a server, if it is whole. What is printed comes with it, as an open file."""
     text, found_files, _, _ = socket.recv_fds(connection, PIECE, 1)
-    files = list(found_files)
-    while files and not text.endswith(b"\n"):
+    received = list(found_files)
+    while received and not text.endswith(b"\n"):
         piece = connection.recv(PIECE)
         if not piece:
             break
         text += piece
     try:
-        if files and text.endswith(b"\n"):
+        if received and text.endswith(b"\n"):
             found = json.loads(text)
-            return ServerReply(found["status"], found["said"], files.pop())
+            return ServerReply(found["status"], found["said"], received.pop())
     finally:
-        for file in files:
+        for file in received:
             os.close(file)
     return None
 

@@ -167,20 +167,20 @@ class Server:
 
     def run(self, stop_after: float) -> None:
         """Takes requests until it is told to stop, or until nothing was asked for so many seconds."""
-        running, last = 0, time.monotonic()
+        pending, last = 0, time.monotonic()
         while self._stopping is None:
-            left = None if running else last + stop_after - time.monotonic()
+            left = None if pending else last + stop_after - time.monotonic()
             if left is not None and left <= 0:
                 return
             wait = None if left is None else min(left, LONGEST_WAIT)
             ready, _, _ = select.select([self._socket, self._ended], [], [], wait)
             if self._ended in ready:
-                running, last = running - len(self._ended.recv(1 << 10)), time.monotonic()
+                pending, last = pending - len(self._ended.recv(1 << 10)), time.monotonic()
             if self._socket in ready:
                 connection = self._accepted()
                 if connection is not None:
                     threading.Thread(target=self._take, args=(connection,), daemon=True).start()
-                    running += 1
+                    pending += 1
 
     def _accepted(self) -> socket.socket | None:
         """A new connection. Where there are no descriptors for one, others may soon be closed."""

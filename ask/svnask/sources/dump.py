@@ -11,7 +11,6 @@ from svnask.copy.store import Index, Kept, Store
 from svnask.copy.strip import Copy, Stripper
 from svnask.copy.window import Window
 from svnask.errors import Failed
-from svnask.sources import cache
 from svnask.sources.entries import Entry
 from svnask.sources.progress import Progress
 from svnask.sources.source import Source, index_of_copy, known_of

@@ -54,7 +54,7 @@ class Source:
         """The revisions with the property sections that they have now."""
         raise Usage("--properties is for a repository: those of a dump do not change")
 
-    def path_of_url(self, url: str) -> bytes | None:
+    def path_of_url(self, url: str) -> bytes | None:  # pylint: disable=unused-argument
         """Return the path that a URL has below the root, if it is below that."""
         return None
 
