@@ -1,8 +1,8 @@
 """Dates of revisions: how `svn` prints them, and which revision a date names.
 
->>> read(b"2026-01-02T03:04:05.678901Z")
+>>> read_date(b"2026-01-02T03:04:05.678901Z")
 (1767323045, 678901)
->>> shown(b"2026-01-02T03:04:05.678901Z", "UTC")
+>>> shown_date(b"2026-01-02T03:04:05.678901Z", "UTC")
 '2026-01-02 03:04:05 +0000 (Fri, 02 Jan 2026)'
 """
 from __future__ import annotations
