@@ -34,7 +34,7 @@ SHAPES: dict[Callable[[int], bytes], int] = {
     shapes.merges: 1500,
     shapes.renames: 10000,
     shapes.deep_path: 500,
-    shapes.properties: 500000,
+    shapes.properties: 50000,
     shapes.wide_value: 500000,
     shapes.long_message: 5000000,
 }

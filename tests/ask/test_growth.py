@@ -42,7 +42,7 @@ for place, name in (
     (strip.Stripper, "_put_revision"), (strip.Stripper, "_first_line"),
 ):
     setattr(place, name, counted(getattr(place, name)))
-sys.exit(main.main())
+sys.exit(main.answer())
 """
 
 

@@ -41,7 +41,7 @@ def endless(history, given, write, is_last=False):
         pass
     tell(history, given, write, is_last)
 running.tell = endless
-sys.exit(main.main(sys.argv[3:]))
+sys.exit(main.answer(sys.argv[3:]))
 """
 
 
