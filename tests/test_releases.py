@@ -210,7 +210,9 @@ class Wheels(ProgramTest):
         for line in lines:
             if line.startswith("License-File: "):
                 self.assertTrue(self.text_in("licenses/" + line.partition(": ")[2]))
-        self.compare("commands", "[console_scripts]\nsvnask = svnask.cli.command:run\n", self.text_in("entry_points.txt"))
+        self.compare(
+            "commands", "[console_scripts]\nsvnask = svnask.cli.command:run\n", self.text_in("entry_points.txt")
+        )
 
     def check_installed(self, name: str, programs: Path, variables: Mapping[str, Optional[str]]) -> None:
         """Asks the first questions, by programs that are not on the path."""

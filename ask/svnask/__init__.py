@@ -25,6 +25,7 @@ if TYPE_CHECKING:
         Line,
         Locate,
         Located,
+        LocationSegments,
         Log,
         Logged,
         Merge,
@@ -34,7 +35,6 @@ if TYPE_CHECKING:
         Query,
         Segment,
         Segments,
-        Where,
     )
     from svnask.errors import Denied, Error, Failed, Refused, Unreached
     from svnask.public import History
@@ -48,6 +48,7 @@ __all__ = [
     "History",
     "Inherited",
     "Line",
+    "LocationSegments",
     "Locate",
     "Located",
     "Log",
@@ -68,7 +69,8 @@ __all__ = [
 # Where each name is. A module is imported when a name of it is used: a question to a server needs none.
 _MODULES = {
     "engine.queries": (
-        "Answer Inherited Line Locate Located Log Logged Merge Mergeinfo Merges Pair Query Segment Segments Where"
+        "Answer Inherited Line Locate Located LocationSegments Log Logged Merge Mergeinfo Merges Pair Query "
+        "Segment Segments Where"
     ),
     "copy.changes": "Change",
     "errors": "Denied Error Failed Refused Unreached",

@@ -9,9 +9,9 @@ from dev.dumps import FILE, added, changed, copied, dump_of, mergeinfo
 from svnask import History
 from svnask.branches import questions as branches
 from svnask.engine import talk as engine
-from svnask.engine.queries import Answer, Log, Logged
+from svnask.engine.queries import Answer, LocationSegments, Log, Logged
 from svnask.engine.queries import Merges as Merged
-from svnask.engine.queries import Pair, Query, Segments, Where
+from svnask.engine.queries import Pair, Query, Segments
 from svnask.history.lives import Life
 from svnask.merges import gains as merges
 from svnask.merges.gains import Gain, Interval, minus
@@ -63,7 +63,7 @@ def merged(history: History, source: Life, targets: list[Place]) -> list[set[int
     bounds = source.first, source.last
     merged_of = history.ask([Pair(source.path, source.last, "merged", *target, bounds) for target in targets])
     found = []
-    for answer, where in zip(merged_of, list(history.ask([Where(*target) for target in targets]))):
+    for answer, where in zip(merged_of, list(history.ask([LocationSegments(*target) for target in targets]))):
         assert isinstance(answer, Merged) and isinstance(where, Segments)
         own = {rev for each in where.segments if each.path == source.path for rev in range(each.lo, each.hi + 1)}
         found.append({merge.rev for merge in answer.revisions} - own)

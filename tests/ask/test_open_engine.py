@@ -14,7 +14,7 @@ from unittest import mock
 from dev.dumps import Dump, Revision, added, changed, dump_of, mergeinfo
 from svnask import History
 from svnask.engine import talk as engine
-from svnask.engine.queries import Answer, Line, Locate, Log, Logged, Query, Where
+from svnask.engine.queries import Answer, Line, Locate, LocationSegments, Log, Logged, Query
 from svnask.errors import Denied, Failed, Refused
 from svnask.sources.opening import source_of
 from svnask.sources.progress import Progress
@@ -65,7 +65,9 @@ class OpenEngine(base.Case):
         with self.history(DUMP) as history:
             for _ in range(3):
                 self.assertEqual(history.log(b"trunk", 13).revisions, TRUNK)
-                self.assertEqual([answer.status for answer in history.ask([Where(b"none", 13)])], ["no-such-path"])
+                self.assertEqual(
+                    [answer.status for answer in history.ask([LocationSegments(b"none", 13)])], ["no-such-path"]
+                )
                 history.check()
             self.assertEqual(list(history.ask([])), [])
         self.assertEqual(len(self.started), 1)
@@ -97,7 +99,11 @@ class OpenEngine(base.Case):
                 self.assertRaisesRegex(Failed, "ended by SIGKILL", history.check)
 
     def test_pipes_may_be_full_both_ways(self) -> None:
-        queries: list[Query[Answer]] = [Log(b"trunk", 13), Where(b"tags/one-1.0", 13), Line(b"", 0, b"x" * 3000)] * 500
+        queries: list[Query[Answer]] = [
+            Log(b"trunk", 13),
+            LocationSegments(b"tags/one-1.0", 13),
+            Line(b"", 0, b"x" * 3000),
+        ] * 500
         with self.history(DUMP) as history:
             lengths = [len(answer.text) for answer in history.ask(queries)]
             self.assertEqual((len(lengths), set(lengths[::3]), set(lengths[2::3])), (1500, {29}, {0}))
@@ -130,7 +136,7 @@ class OpenEngine(base.Case):
         def ask(history: History) -> None:
             for number in range(20):
                 rev = 13 - number % 3
-                queries: list[Query[Answer]] = [Log(b"trunk", rev), Where(b"trunk", rev)]
+                queries: list[Query[Answer]] = [Log(b"trunk", rev), LocationSegments(b"trunk", rev)]
                 answers = list(history.ask(queries * 50))
                 found.append(sum(1 for answer in answers if answer.query in queries and answer.ok))
 

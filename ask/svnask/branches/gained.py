@@ -4,7 +4,7 @@ from __future__ import annotations
 from collections.abc import Iterable, Iterator, Sequence
 from typing import NamedTuple
 
-from svnask.engine.queries import Answers, Log, Mergeinfo, Where, is_askable
+from svnask.engine.queries import Answers, LocationSegments, Log, Mergeinfo, is_askable
 from svnask.errors import Denied
 from svnask.history.lives import Tree
 from svnask.history.open_history import OpenHistory
@@ -64,9 +64,11 @@ def queries_of_source(tree: Tree, head: int, path: bytes, runs: Iterable[Run]) -
 
 def held_by(history: OpenHistory, targets: Sequence[Target]) -> list[HeldRevisions]:
     """Return what each of some targets has."""
-    answers = history.answers(query for each in targets for query in (Where(*each), Log(*each), Mergeinfo(*each)))
+    answers = history.answers(
+        query for each in targets for query in (LocationSegments(*each), Log(*each), Mergeinfo(*each))
+    )
     for target in targets:
-        if not answers[Where(*target)].ok:
+        if not answers[LocationSegments(*target)].ok:
             raise log.not_reached(history, target)
     tree = history.tree
     parts = {
@@ -86,7 +88,7 @@ def held_by(history: OpenHistory, targets: Sequence[Target]) -> list[HeldRevisio
 def held_of(
     history: OpenHistory, answers: Answers, target: Target, parts: Iterable[NamedPart], recorded: Intervals
 ) -> HeldRevisions:
-    trace = log.Trace(answers[Where(*target)].segments, answers[Log(*target)].revisions)
+    trace = log.Trace(answers[LocationSegments(*target)].segments, answers[Log(*target)].revisions)
     found = HeldRevisions(set(log.listed(history, trace)), set(), set())
     for path, query, inheritable in parts:
         alone = recorded.get(path, [])

@@ -5,7 +5,7 @@ from collections.abc import Iterable, Iterator, Sequence
 from typing import NamedTuple
 
 from svnask.copy.store import Record
-from svnask.engine.queries import Locate, Segment, Where, is_askable
+from svnask.engine.queries import Locate, LocationSegments, Segment, is_askable
 from svnask.history.open_history import OpenHistory
 from svnask.history.targets import Target
 from svnask.paths import Place, components, joined, rest_below, tops_of
@@ -93,7 +93,7 @@ def heirs(history: OpenHistory, target: Target, last: int) -> Iterator[Heir]:
     """The paths of a revision that were the target in its peg revision, in the order of paths. The way of each is not
     held: in a chain of copies all of them are as long as the square of the chain."""
     candidates = PossibleHeirs(history.records(), target, last)
-    queries = [Where(path, last) for path in history.askable(candidates.paths)]
+    queries = [LocationSegments(path, last) for path in history.askable(candidates.paths)]
     is_move: dict[tuple[int, Place], bool] = {}
     for query, answer in zip(queries, history.ask(queries)):
         segments = answer.segments

@@ -7,7 +7,7 @@ from collections.abc import Iterable, Iterator, Sequence
 from typing import NamedTuple
 
 from svnask import projects
-from svnask.engine.queries import Answer, Answers, Log, Logged, Mergeinfo, Query, Where
+from svnask.engine.queries import Answer, Answers, LocationSegments, Log, Logged, Mergeinfo, Query
 from svnask.errors import Denied
 from svnask.history.lives import Life, chains_of, is_plain, lives_at, moves_of, unmatched
 from svnask.history.open_history import OpenHistory
@@ -22,7 +22,7 @@ from svnask.texts import decoded
 
 # How many revisions are looked through at first for the last change of a life, and how many times more at each further
 # look.
-FIRST_WINDOW, WINDOW_GROWS = 64, 16
+FIRST_WINDOW, WINDOW_GROWS = 64, 256
 # How a branch or a tag has a revision.
 HISTORY, MERGED, IN_PART, RECORDED = "history", "merged", "merged in part", "recorded"
 # What happens to a tag.
@@ -156,7 +156,7 @@ class HolderQueries(NamedTuple):
 
     log: Log
     value: Mergeinfo
-    where: Where | None
+    where: LocationSegments | None
 
     def queries(self) -> Iterator[Query[Answer]]:
         yield from (self.log, self.value)
@@ -172,7 +172,9 @@ def holders(history: OpenHistory, patterns: Sequence[bytes], rev: int) -> Iterat
     places = [(life.path, history.head) for life in alive]
     asked = [
         HolderQueries(
-            Log(*place, (rev, rev)), Mergeinfo(*place), Where(*place) if lists_more or place[0] == b"/" else None
+            Log(*place, (rev, rev)),
+            Mergeinfo(*place),
+            LocationSegments(*place) if lists_more or place[0] == b"/" else None,
         )
         for place in places
     ]
@@ -232,7 +234,9 @@ class Compared(NamedTuple):
     @property
     def trace(self) -> log.Trace:
         """Return where the branch was."""
-        return log.Trace(self.answers[Where(*self.source)].segments, self.answers[Log(*self.source)].revisions)
+        return log.Trace(
+            self.answers[LocationSegments(*self.source)].segments, self.answers[Log(*self.source)].revisions
+        )
 
 
 def unmerged(history: OpenHistory, patterns: Sequence[bytes], into: Target | None) -> Iterator[Compared]:

@@ -21,6 +21,8 @@ A = TypeVar("A", bound="Answer")
 A_co = TypeVar("A_co", bound="Answer", covariant=True)
 # A line of an answer to `log`.
 LOGGED = re.compile(rb"r([0-9]+) [^\n]*\n?")
+# So few bytes are read line by line.
+SHORT = 100
 # What makes JSON of the numbers of a log, and the bytes that are left out then.
 COMMAS = bytes.maketrans(b"\n", b",")
 NO_NUMBERS = bytes(set(range(256)) - set(b"0123456789 \n"))
@@ -82,7 +84,7 @@ class Located(Answer):
 class Segments(Answer):
     """The location segments of a path up to its peg, the newest first."""
 
-    query: Where
+    query: LocationSegments
 
     @property
     def segments(self) -> list[Segment]:
@@ -132,12 +134,12 @@ class Merges(Answer):
 
 def revisions_in(text: bytes) -> list[int]:
     """The revisions of the lines of a log. Reading all at once takes a third of the time of line after line."""
-    found = numbers_in(text)
+    found = numbers_in(text) if len(text) > SHORT else []
     if found is None:
         # Most lines have the path of the first one.
         path = text[text.index(b" ") : (text + b"\n").index(b"\n")]
         found = numbers_in(text.replace(path, b" "))
-    return list(map(int, LOGGED.findall(text))) if found is None else found
+    return found or list(map(int, LOGGED.findall(text)))
 
 
 def numbers_in(log: bytes) -> list[int] | None:
@@ -197,7 +199,7 @@ class Locate(Query[Located]):
         return Located(self, status, text)
 
 
-class Where(Query[Segments]):
+class LocationSegments(Query[Segments]):
     """The query for the location segments of a path."""
 
     def line(self) -> bytes:
@@ -205,6 +207,10 @@ class Where(Query[Segments]):
 
     def answer(self, status: str, text: bytes) -> Segments:
         return Segments(self, status, text)
+
+
+# The name of the query in earlier versions.
+Where = LocationSegments
 
 
 class Log(Query[Logged]):

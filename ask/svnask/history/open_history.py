@@ -14,7 +14,19 @@ from typing import BinaryIO, TypeVar
 
 from svnask.copy.changes import WITHOUT_KIND, Change, KnownBlocks, changes_of, place_of_change
 from svnask.copy.store import Index, Record, Revision, Store
-from svnask.engine.queries import A, Answer, Answers, Locate, Located, Log, Logged, Query, Segments, Where, is_askable
+from svnask.engine.queries import (
+    A,
+    Answer,
+    Answers,
+    Locate,
+    Located,
+    LocationSegments,
+    Log,
+    Logged,
+    Query,
+    Segments,
+    is_askable,
+)
 from svnask.engine.talk import Talk
 from svnask.errors import Damaged, Denied, Failed, Refused
 from svnask.history import dates
@@ -287,7 +299,7 @@ class OpenHistory:
         >>> history.segments(b"branches/one", 5).segments
         [Segment(lo=3, hi=5, path=b'/branches/one'), Segment(lo=1, hi=2, path=b'/trunk')]
         """
-        return one(self.ask([Where(path, rev)]))
+        return one(self.ask([LocationSegments(path, rev)]))
 
     def log(self, path: bytes, rev: int) -> Logged:
         """The operative revisions of a path, the newest first.

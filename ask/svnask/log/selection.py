@@ -6,7 +6,7 @@ from collections.abc import Iterable, Iterator, Sequence
 from operator import attrgetter
 from typing import NamedTuple
 
-from svnask.engine.queries import Log, Segment, Where
+from svnask.engine.queries import LocationSegments, Log, Segment
 from svnask.errors import Denied
 from svnask.history.open_history import OpenHistory
 from svnask.history.targets import Target, known
@@ -92,7 +92,7 @@ def not_located(target: Target, rev: int) -> Denied:
 
 def traces(history: OpenHistory, places: Iterable[Place]) -> Iterator[tuple[Place, Trace | None]]:
     """Yield the trace of each path that is there, else None."""
-    queries = {place: (Where(*place), Log(*place)) for place in places}
+    queries = {place: (LocationSegments(*place), Log(*place)) for place in places}
     answers = history.answers(query for pair in queries.values() for query in pair)
     for place, (asked, logged) in queries.items():
         where = answers[asked]

@@ -4,7 +4,7 @@ from __future__ import annotations
 from collections.abc import Iterator, Sequence
 from typing import NamedTuple
 
-from svnask.engine.queries import Answers, Where
+from svnask.engine.queries import Answers, LocationSegments
 from svnask.errors import Denied
 from svnask.history.open_history import OpenHistory
 from svnask.history.targets import Target
@@ -60,7 +60,7 @@ class BranchPair:
 
     def _located(self, branch: Target) -> list[tuple[int, int, bytes]]:
         """Return where a branch was, the newest revisions first."""
-        answer = self._answers[Where(*branch)]
+        answer = self._answers[LocationSegments(*branch)]
         if not answer.ok:
             raise log.not_reached(self._history, branch)
         return [(each.lo, each.hi, each.path) for each in answer.segments if each.path is not None]

@@ -9,7 +9,7 @@ import bisect
 from collections.abc import Iterable, Iterator, Sequence
 from typing import NamedTuple
 
-from svnask.engine.queries import Answer, Inherited, Mergeinfo, Query, Segments, Where, is_askable
+from svnask.engine.queries import Answer, Inherited, LocationSegments, Mergeinfo, Query, Segments, is_askable
 from svnask.history.lives import Life
 from svnask.mergeinfo.explicit import Explicit
 from svnask.paths import tops_of
@@ -179,7 +179,7 @@ def queries_about_life(explicit: Explicit, life: Life) -> list[Query[Answer]]:
     places = [life.path] if life.source is None else [life.path, life.source[0]]
     if not any(explicit.events(top) for path in places for top in tops_of(path)):
         return []
-    asked: list[Query[Answer]] = [Where(life.path, life.last)]
+    asked: list[Query[Answer]] = [LocationSegments(life.path, life.last)]
     if life.source is not None and is_askable(life.source[0]):
         asked.append(Mergeinfo(*life.source))
     return asked + [Mergeinfo(life.path, rev) for rev in candidates(explicit, life)]

@@ -13,7 +13,7 @@ from collections.abc import Iterable, Iterator, Mapping, MutableMapping
 from typing import NamedTuple
 
 from svnask.copy.changes import Change
-from svnask.engine.queries import Answer, Answers, Inherited, Log, Mergeinfo, Pair, Query, Segment, Where
+from svnask.engine.queries import Answer, Answers, Inherited, LocationSegments, Log, Mergeinfo, Pair, Query, Segment
 from svnask.errors import Denied
 from svnask.history.open_history import OpenHistory
 from svnask.history.targets import Target
@@ -100,7 +100,7 @@ class Catalog(NamedTuple):
 
 def segments_of(history: OpenHistory, answers: Answers, target: Target) -> list[Segment]:
     """The segments of a path, which must be there."""
-    answer = answers[Where(*target)]
+    answer = answers[LocationSegments(*target)]
     if not answer.ok:
         raise log.not_reached(history, target)
     return answer.segments
@@ -233,13 +233,13 @@ def below(explicit: Explicit, target: Target) -> Iterator[Mergeinfo]:
 
 def queries_about(explicit: Explicit, target: Target, question: Question) -> list[Query[Answer]]:
     """Return what is asked of svnhist about a target, whatever the source is."""
-    return [Where(*target), Mergeinfo(*target), *(below(explicit, target) if question.is_recursive else ())]
+    return [LocationSegments(*target), Mergeinfo(*target), *(below(explicit, target) if question.is_recursive else ())]
 
 
 def queries_of_pair(source: Target, target: Target, question: Question) -> list[Query[Answer]]:
     """Return what is asked of svnhist for a question besides."""
     pairs = [] if question.is_recursive else [Pair(*source, verb, *target) for verb in ("merged", "eligible")]
-    return [Where(*source), Log(*source), *pairs]
+    return [LocationSegments(*source), Log(*source), *pairs]
 
 
 def queries_of_question(explicit: Explicit, source: Target, target: Target, question: Question) -> list[Query[Answer]]:

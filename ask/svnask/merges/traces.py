@@ -6,7 +6,7 @@ import bisect
 from collections.abc import Iterable, Sequence
 from typing import NamedTuple
 
-from svnask.engine.queries import Log, Segment, Where, is_askable
+from svnask.engine.queries import LocationSegments, Log, Segment, is_askable
 from svnask.history.lives import Life, Tree
 from svnask.history.open_history import OpenHistory
 from svnask.log.selection import Trace, Walk, copied_in, listed
@@ -102,11 +102,11 @@ class Traces:
 
     def _ask(self, places: Sequence[Place]) -> None:
         """Asks about some places, and through these about older ones of which svnhist can't be asked."""
-        located = self._history.answers(Where(*place) for place in places)
+        located = self._history.answers(LocationSegments(*place) for place in places)
         asked = {
             Log(*place, (segment.lo, segment.hi)): segments[at:]
             for place in places
-            for segments in [there(located[Where(*place)].segments)]
+            for segments in [there(located[LocationSegments(*place)].segments)]
             for at, segment in enumerate(segments)
             if at == 0 or not is_askable(segment.path or b"")
         }

@@ -14,7 +14,7 @@ from collections.abc import Iterable, Iterator, Sequence
 from typing import NamedTuple
 
 from svnask.branches import questions as branches
-from svnask.engine.queries import Answer, Mergeinfo, Query, Where, is_askable
+from svnask.engine.queries import Answer, LocationSegments, Mergeinfo, Query, is_askable
 from svnask.history import dates
 from svnask.history.lives import Life, Tree
 from svnask.history.open_history import OpenHistory
@@ -286,7 +286,7 @@ class Parts:
         for life, revs in self._set.items():
             first = min(revs)
             before = {rev - 1 for rev in revs if rev == first or self._explicit.text(life.path, rev - 1) is None}
-            queries: list[Query[Answer]] = [Where(life.path, life.last)]
+            queries: list[Query[Answer]] = [LocationSegments(life.path, life.last)]
             queries += [Mergeinfo(life.path, rev) for rev in sorted(revs | before)]
             yield from (LifeQuery(life, query) for query in queries)
 

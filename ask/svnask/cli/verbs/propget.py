@@ -6,7 +6,7 @@ from collections.abc import Iterator
 from typing import NamedTuple
 
 from svnask.asking.verb import Object, Verb, shown
-from svnask.engine.queries import Where
+from svnask.engine.queries import LocationSegments
 from svnask.errors import Denied, Usage
 from svnask.history.open_history import OpenHistory
 from svnask.history.targets import Target, target_of
@@ -56,9 +56,9 @@ class PropgetVerb(Verb):
                 "E205000", "--no-newline is only available for single-target, non-recursive propget operations"
             )
         targets = [target_of(history, word) for word in given.targets or [""]]
-        answers = history.answers(Where(*target) for target in targets)
+        answers = history.answers(LocationSegments(*target) for target in targets)
         for target in targets:
-            if not answers[Where(*target)].ok:
+            if not answers[LocationSegments(*target)].ok:
                 raise Denied("E150000", f"'{decoded(target.path)}' does not exist in revision {target.rev}")
         explicit = Explicit(history.records())
         return [each for target in targets for each in found_at(explicit, target, given.recursive)]
