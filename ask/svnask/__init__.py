@@ -35,6 +35,7 @@ if TYPE_CHECKING:
         Query,
         Segment,
         Segments,
+        Where,
     )
     from svnask.errors import Denied, Error, Failed, Refused, Unreached
     from svnask.public import History
