@@ -21,7 +21,7 @@ class Examples(base.Case):
         for name in names:
             module = importlib.import_module(name)
             # Where nothing is said, `-v` of the tests would have it print each example.
-            done = doctest.testmod(module, verbose=False, extraglobs={"history": history})
+            done = doctest.testmod(module, verbose=False, extraglobs={"history": history, "History": svnask.History})
             self.assertEqual(done.failed, 0, name)
             count += done.attempted
         self.assertGreater(count, 20)

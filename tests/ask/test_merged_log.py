@@ -6,7 +6,7 @@ import json
 from dev.dumps import DIR, FILE, Node, added, changed, copied, dump_of, mergeinfo
 from svnask.merged_log.parts import MergedPart, hash_of, in_hash_order, parts_of_mergeinfo
 from svnask.merged_log.selection import Walked, Walker
-from svnask.merges.gains import Intervals
+from svnask.merges.value_changes import PathRanges
 from tests.ask import base
 
 
@@ -16,7 +16,7 @@ def setting(path: bytes, value: bytes) -> Node:
 
 class MergedLog(base.Case):
     def test_ranges_are_cut_where_one_begins_or_ends(self) -> None:
-        rows: tuple[tuple[Intervals, list[tuple[int, int, list[bytes]]]], ...] = (
+        rows: tuple[tuple[PathRanges, list[tuple[int, int, list[bytes]]]], ...] = (
             ({b"/a": [(1, 5)]}, [(1, 5, [b"/a"])]),
             ({b"/a": [(1, 5)], b"/b": [(3, 9)]}, [(1, 2, [b"/a"]), (3, 5, [b"/a", b"/b"]), (6, 9, [b"/b"])]),
             ({b"/a": [(1, 1), (4, 4)], b"/b": [(3, 3)]}, [(1, 1, [b"/a"]), (3, 3, [b"/b"]), (4, 4, [b"/a"])]),

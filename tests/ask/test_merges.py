@@ -14,7 +14,7 @@ from svnask.engine.queries import Merges as Merged
 from svnask.engine.queries import Pair, Query, Segments
 from svnask.history.lives import Life
 from svnask.merges import gains as merges
-from svnask.merges.gains import Gain, Interval, minus
+from svnask.merges.gains import Gain
 from svnask.paths import Place
 from tests.ask import base
 
@@ -133,18 +133,6 @@ class Gains(base.Case):
                 (b"/b/one", [5], b"/b/two", 6, None, False),
             ],
         )
-
-    def test_intervals(self) -> None:
-        cases: list[tuple[list[Interval], list[Interval], list[Interval]]] = [
-            ([(1, 9)], [], [(1, 9)]),
-            ([(1, 9)], [(3, 4), (6, 6)], [(1, 2), (5, 5), (7, 9)]),
-            ([(4, 5)], [(1, 9)], []),
-            ([(1, 2), (4, 9)], [(2, 5), (9, 12)], [(1, 1), (6, 8)]),
-            ([(1, 1), (3, 3), (5, 5)], [(1, 3)], [(5, 5)]),
-            ([], [(1, 2)], []),
-        ]
-        for these, those, wanted in cases:
-            self.assertEqual(minus(these, those), wanted)
 
 
 class ShowRevs(base.Case):

@@ -11,8 +11,7 @@ from svnask.history.open_history import OpenHistory
 from svnask.history.targets import Target
 from svnask.log import selection as log
 from svnask.mergeinfo.values import Run, runs_of
-from svnask.merges.gains import Intervals, is_in
-from svnask.merges.recorded import Recorded
+from svnask.merges.recorded import Merged, Recorded
 from svnask.paths import is_at_or_below
 from svnask.texts import decoded
 
@@ -86,13 +85,13 @@ def held_by(history: OpenHistory, targets: Sequence[Target]) -> list[HeldRevisio
 
 
 def held_of(
-    history: OpenHistory, answers: Answers, target: Target, parts: Iterable[NamedPart], recorded: Intervals
+    history: OpenHistory, answers: Answers, target: Target, parts: Iterable[NamedPart], recorded: Merged
 ) -> HeldRevisions:
     trace = log.Trace(answers[LocationSegments(*target)].segments, answers[Log(*target)].revisions)
     found = HeldRevisions(set(log.listed(history, trace)), set(), set())
     for path, query, inheritable in parts:
-        alone = recorded.get(path, [])
-        revisions = (rev for rev in answers[query].revisions if not is_in(alone, rev))
+        alone = recorded.get(path, ())
+        revisions = (rev for rev in answers[query].revisions if rev not in alone)
         (found.merged if inheritable else found.partial).update(revisions)
     return found
 

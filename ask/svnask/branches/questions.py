@@ -1,7 +1,6 @@
 """Questions about all branches and tags at once."""
 from __future__ import annotations
 
-import bisect
 import itertools
 from collections.abc import Iterable, Iterator, Sequence
 from typing import NamedTuple
@@ -15,9 +14,9 @@ from svnask.history.targets import Target
 from svnask.log import selection as log
 from svnask.mergeinfo.values import runs_of
 from svnask.merges import show_revs as mergeinfo
-from svnask.merges.gains import Intervals, between, is_in
-from svnask.merges.recorded import Recorded
+from svnask.merges.recorded import Merged, Recorded
 from svnask.paths import Place, components, is_at_or_below, tops_of
+from svnask.revisions import in_range
 from svnask.texts import decoded
 
 # How many revisions are looked through at first for the last change of a life, and how many times more at each further
@@ -123,7 +122,7 @@ def log_of(chain: Sequence[Life], low: int) -> Log:
 def split_by_life(answer: Answer, chain: Sequence[Life]) -> list[list[int]]:
     """The operative revisions of each life of a chain, rising, by the answer about all of it."""
     revisions = answered(answer)[::-1]
-    return [between(revisions, life.first, life.last) for life in chain]
+    return [[*in_range(revisions, life.first, life.last)] for life in chain]
 
 
 def logs_of(lives: Sequence[Life]) -> list[Query[Answer]]:
@@ -210,9 +209,9 @@ def namings(history: OpenHistory, value: dict[bytes, str], changed: set[bytes], 
                 yield Naming(source, run.inheritable)
 
 
-def how_merged(named: Sequence[Naming], recorded: Intervals, rev: int) -> str:
+def how_merged(named: Sequence[Naming], recorded: Merged, rev: int) -> str:
     """Return whether a revision was merged, and if so whether as a whole, or only recorded."""
-    found = [each.is_whole for each in named if not is_in(recorded.get(each.source, ()), rev)]
+    found = [each.is_whole for each in named if rev not in recorded.get(each.source, ())]
     return RECORDED if not found else MERGED if any(found) else IN_PART
 
 
@@ -265,14 +264,13 @@ def recorded_of(history: OpenHistory, compared: Iterable[Compared]) -> Iterator[
         yield each.left, list(only_recorded(history, of_target, each.trace))
 
 
-def only_recorded(history: OpenHistory, recorded: Intervals, trace: log.Trace) -> Iterator[int]:
+def only_recorded(history: OpenHistory, recorded: Merged, trace: log.Trace) -> Iterator[int]:
     """The revisions of a source that were only recorded, each at the path where the source was then."""
     revisions = log.listed(history, trace)
     for segment in reversed(trace.segments):
-        found = recorded.get(segment.path or b"", ())
+        found = recorded.get(segment.path or b"")
         if found:
-            begin, end = bisect.bisect_left(revisions, segment.lo), bisect.bisect_right(revisions, segment.hi)
-            yield from (rev for rev in revisions[begin:end] if is_in(found, rev))
+            yield from found.among(in_range(revisions, segment.lo, segment.hi))
 
 
 def targets_of(history: OpenHistory, alive: Sequence[Life], into: Target | None) -> dict[Life, Target]:

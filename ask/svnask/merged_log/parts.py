@@ -6,7 +6,8 @@ from collections import deque
 from collections.abc import Iterable
 from typing import NamedTuple
 
-from svnask.merges.gains import Interval, Intervals
+from svnask.merges.value_changes import PathRanges
+from svnask.revisions import Range
 
 FIRST_SIZE = 16
 
@@ -23,7 +24,7 @@ class MergedPart(NamedTuple):
 class Rest:
     """The ranges of a path that are left. `place` orders paths whose first ranges are the same."""
 
-    def __init__(self, path: bytes, ranges: list[Interval], place: int) -> None:
+    def __init__(self, path: bytes, ranges: list[Range], place: int) -> None:
         self.path = path
         self._ranges = ranges[::-1]
         self.first, self.last = self._ranges.pop()
@@ -41,7 +42,7 @@ class Rest:
         """Goes on with the next range."""
         self.first, self.last = self._ranges.pop()
 
-    def intervals(self) -> list[Interval]:
+    def ranges(self) -> list[Range]:
         return [(self.first, self.last), *self._ranges[::-1]]
 
 
@@ -75,7 +76,7 @@ def in_hash_order(paths: Iterable[bytes]) -> list[bytes]:
     return [path for chain in chains for _, path in chain]
 
 
-def parts_of_mergeinfo(info: Intervals, is_reverse: bool) -> list[MergedPart]:
+def parts_of_mergeinfo(info: PathRanges, is_reverse: bool) -> list[MergedPart]:
     """The parts of some mergeinfo, cut wherever a range of a path begins or ends.
 
     A fault of Subversion is repeated: where several paths have a part, and it is the end of the last range of one of
@@ -98,7 +99,7 @@ def parts_of_mergeinfo(info: Intervals, is_reverse: bool) -> list[MergedPart]:
             each.place = -len(found), place
             heapq.heappush(left, each)
     for each in left:
-        found += [MergedPart(*interval, (each.path,), is_reverse) for interval in each.intervals()]
+        found += [MergedPart(*found_range, (each.path,), is_reverse) for found_range in each.ranges()]
     return found
 
 

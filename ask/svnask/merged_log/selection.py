@@ -6,7 +6,6 @@ ranges of revisions of other paths, each of which is walked in the same way.
 """
 from __future__ import annotations
 
-import bisect
 from collections.abc import Iterable, Iterator, Sequence
 from operator import attrgetter
 from typing import NamedTuple, Union
@@ -16,10 +15,11 @@ from svnask.history.open_history import OpenHistory
 from svnask.history.targets import Target, known
 from svnask.log.selection import Item, Options, copied_in, parts
 from svnask.merged_log.parts import MergedPart, parts_of_mergeinfo
-from svnask.merges.gains import Interval, Intervals, is_in, united
+from svnask.merges.gains import NONE
 from svnask.merges.traces import Cut, Traces
 from svnask.merges.value_changes import MergeinfoChanges
 from svnask.paths import is_at_or_below
+from svnask.revisions import Revisions
 from svnask.texts import decoded
 
 END = Item(-1)
@@ -41,13 +41,13 @@ class Walked:
     """The revisions that were walked below some merge: for each path rising runs, none of which touches another."""
 
     def __init__(self) -> None:
-        self._runs: dict[bytes, list[Interval]] = {}
+        self._runs: dict[bytes, Revisions] = {}
 
     def has(self, path: bytes, low: int, high: int) -> bool:
         """Return whether all of a range of a path was walked."""
         return high <= self._run(path, low)[1]
 
-    def left(self, path: bytes, low: int, high: int) -> Interval:
+    def left(self, path: bytes, low: int, high: int) -> tuple[int, int]:
         """Return what Subversion walks of a range of which not all was walked. The first run that reaches into it from
         before has it begin with the last revision of that run, which is walked again. Else one that reaches out of
         its end has it end with the first revision of that run."""
@@ -60,21 +60,12 @@ class Walked:
             last = end[0]
         return (last, first) if is_empty else (first, last)
 
-    def _run(self, path: bytes, rev: int) -> Interval:
-        """The run that has a revision."""
-        runs = self._runs.get(path, [])
-        at = bisect.bisect_left(runs, (rev + 1,)) - 1
-        return runs[at] if at >= 0 and rev <= runs[at][1] else NO_RUN
+    def _run(self, path: bytes, rev: int) -> tuple[int, int]:
+        """Return the run that has a revision."""
+        return self._runs.get(path, NONE).range_with(rev) or NO_RUN
 
     def add(self, path: bytes, low: int, high: int) -> None:
-        runs = self._runs.setdefault(path, [])
-        first = last = bisect.bisect_left(runs, (low,))
-        if first and low <= runs[first - 1][1] + 1:
-            first -= 1
-        while last < len(runs) and runs[last][0] <= high + 1:
-            last += 1
-        joined = [*runs[first:last], (low, high)]
-        runs[first:last] = [(min(lo for lo, _ in joined), max(hi for _, hi in joined))]
+        self._runs.setdefault(path, Revisions()).add(low, high)
 
 
 class Walker:
@@ -85,7 +76,7 @@ class Walker:
         self.traces = Traces(history, history.tree, stops_on_copy)
         self._changes = MergeinfoChanges(history, history.explicit, self.traces)
         # Where the targets were themselves in the range.
-        self._own: Intervals = {}
+        self._own: dict[bytes, Revisions] = {}
         # The revisions that were sent as merged ones, and those that were left out since the last one that was sent.
         self._sent: set[int] = set()
         self._left_out: list[int] = []
@@ -125,26 +116,26 @@ class Walker:
                 f"-g with a rising range is not taken where 'svn' does not end: r{part.last} was merged in itself",
             )
 
-    def _own_of(self, paths: list[bytes], asked: Range) -> Intervals:
-        found: Intervals = {}
+    def _own_of(self, paths: list[bytes], asked: Range) -> dict[bytes, Revisions]:
+        found: dict[bytes, Revisions] = {}
         # The paths at which one of the targets was, went and came again, or was copied onto itself.
         broken: set[bytes] = set()
         for cut in self._cuts(paths, asked.high):
-            own: Intervals = {}
+            own: dict[bytes, list[tuple[int, int]]] = {}
             for segment in cut.segments:
                 lo, hi = max(segment.lo, asked.low), min(segment.hi, asked.high)
                 if segment.path is not None and lo <= hi:
                     own.setdefault(segment.path, []).append((lo, hi))
                     if copied_in(self._history, segment, hi) > lo:
                         broken.add(segment.path)
-            broken.update(path for path, intervals in own.items() if len(intervals) > 1)
+            broken.update(path for path, ranges in own.items() if len(ranges) > 1)
             for path in own:
                 if path in found and path in broken:
                     raise Denied(
                         "E195002",
                         f"-g is not taken where 'svn' fails: two targets were at '{decoded(path)}', with a break",
                     )
-                found[path] = united([*found.get(path, []), *own[path]])
+                found[path] = found.get(path, NONE) | Revisions(own[path])
         return found
 
     def _cuts(self, paths: Iterable[bytes], rev: int) -> list[Cut]:
@@ -252,7 +243,7 @@ class Walker:
 
     def _is_elsewhere(self, rev: int) -> bool:
         """Return whether a revision changed a path that is not at or below where the targets were then."""
-        own = [path for path, intervals in self._own.items() if is_in(intervals, rev)]
+        own = [path for path, revisions in self._own.items() if rev in revisions]
         return any(not any(is_at_or_below(change.path, top) for top in own) for change in self._history.changes(rev))
 
 

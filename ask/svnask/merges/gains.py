@@ -5,7 +5,6 @@ was only recorded as merged. What the source of a copy had is not gained by the 
 """
 from __future__ import annotations
 
-import bisect
 from collections.abc import Iterable, Iterator, Sequence
 from typing import NamedTuple
 
@@ -13,10 +12,9 @@ from svnask.engine.queries import Answer, Inherited, LocationSegments, Mergeinfo
 from svnask.history.lives import Life
 from svnask.mergeinfo.explicit import Explicit
 from svnask.paths import tops_of
+from svnask.revisions import Revisions, in_range
 
-Interval = tuple[int, int]
-# For each path some revisions, as rising intervals.
-Intervals = dict[bytes, list[Interval]]
+NONE = Revisions()
 # For each source path a rangelist of mergeinfo, as svnhist prints it.
 Rangelists = dict[bytes, str]
 
@@ -43,16 +41,11 @@ class Tallied(NamedTuple):
     lost: int | None
 
 
-def split_lost(held: Tallied, intervals: Sequence[Interval], lost: int) -> tuple[Tallied, Tallied]:
+def split_lost(held: Tallied, revisions: Revisions, lost: int) -> tuple[Tallied, Tallied]:
     """Split the revisions into those that are kept and those that are lost."""
-    gone = {rev for lo, hi in intervals for rev in between(held.revisions, lo, hi)}
-    left = [rev for rev in held.revisions if rev not in gone] if gone else held.revisions
-    return held._replace(revisions=left), held._replace(revisions=sorted(gone), lost=lost)
-
-
-def between(revisions: list[int], lo: int, hi: int) -> list[int]:
-    """Return the rising revisions that are in an interval."""
-    return revisions[bisect.bisect_left(revisions, lo) : bisect.bisect_right(revisions, hi)]
+    gone = revisions.among(held.revisions)
+    left = sorted({*held.revisions}.difference(gone)) if gone else held.revisions
+    return held._replace(revisions=left), held._replace(revisions=gone, lost=lost)
 
 
 class Sources:
@@ -67,18 +60,15 @@ class Sources:
     def at(self, path: bytes) -> list[Life]:
         return self._by_path.get(path, [])
 
-    def revisions(self, life: Life, intervals: Iterable[Interval]) -> list[int]:
-        """The operative revisions of a life that are in some rising intervals."""
-        found: list[int] = []
-        for lo, hi in intervals:
-            found += between(self._operative[life], lo, hi)
-        return found
+    def revisions(self, life: Life, revisions: Revisions) -> list[int]:
+        """Return the operative revisions of a life that are in a set, rising."""
+        return revisions.among(self._operative[life])
 
 
 class Tally:
     """The revisions that one target has gained so far."""
 
-    def __init__(self, sources: Sources, own: Intervals) -> None:
+    def __init__(self, sources: Sources, own: dict[bytes, Revisions]) -> None:
         self._sources = sources
         self._own = own
         self._value: Rangelists = {}
@@ -94,8 +84,8 @@ class Tally:
         for path in self._value.keys() | value.keys():
             if self._value.get(path) == value.get(path):
                 continue
-            before, after = intervals_of_ranges(self._value.get(path, "")), intervals_of_ranges(value.get(path, ""))
-            lost, gained = minus(before, after), minus(minus(after, before), self._own.get(path, []))
+            before, after = (Revisions.parse(each.get(path, "")) for each in (self._value, value))
+            lost, gained = before - after, after - before - self._own.get(path, NONE)
             for source in self._sources.at(path):
                 self._lose(source, lost, rev)
                 revisions = self._sources.revisions(source, gained)
@@ -103,9 +93,9 @@ class Tally:
                     self._held.setdefault(source, []).append(Tallied(source, revisions, rev, None))
         self._value = value
 
-    def _lose(self, source: Life, intervals: Sequence[Interval], rev: int) -> None:
-        if intervals and source in self._held:
-            parts = [split_lost(each, intervals, rev) for each in self._held[source]]
+    def _lose(self, source: Life, revisions: Revisions, rev: int) -> None:
+        if revisions and source in self._held:
+            parts = [split_lost(each, revisions, rev) for each in self._held[source]]
             self._held[source] = [left for left, _ in parts if left.revisions]
             self._lost += [gone for _, gone in parts if gone.revisions]
 
@@ -113,56 +103,12 @@ class Tally:
         return self._lost + [each for all_of in self._held.values() for each in all_of]
 
 
-def is_in(intervals: Sequence[Interval], rev: int) -> bool:
-    """Return whether a revision is in some rising intervals."""
-    at = bisect.bisect_left(intervals, (rev + 1,)) - 1
-    return at >= 0 and rev <= intervals[at][1]
-
-
-def minus(these: Sequence[Interval], those: Sequence[Interval]) -> list[Interval]:
-    """Return what is in some intervals and not in others. Both rise."""
-    left = []
-    at = 0
-    for lo, hi in these:
-        while at < len(those) and those[at][1] < lo:
-            at += 1
-        after = at
-        while after < len(those) and those[after][0] <= hi:
-            if those[after][0] > lo:
-                left.append((lo, those[after][0] - 1))
-            lo = those[after][1] + 1
-            after += 1
-        if lo <= hi:
-            left.append((lo, hi))
-    return left
-
-
-def united(intervals: list[Interval]) -> list[Interval]:
-    """Intervals in any order as rising ones, of which none touches another."""
-    found: list[Interval] = []
-    for lo, hi in sorted(intervals) if len(intervals) > 1 else intervals:
-        if found and lo <= found[-1][1] + 1:
-            found[-1] = found[-1][0], max(hi, found[-1][1])
-        else:
-            found.append((lo, hi))
-    return found
-
-
-def intervals_of_ranges(ranges: str) -> list[Interval]:
-    """The intervals of a rangelist, with those that are not inheritable."""
-    found = []
-    for each in ranges.split(",") if ranges else ():
-        lo, dash, hi = each.rstrip("*").partition("-")
-        found.append((int(lo), int(hi if dash else lo)))
-    return found
-
-
-def own_history(segments: Segments) -> Intervals:
-    """Return where a target was itself."""
-    found: Intervals = {}
-    for segment in reversed(segments.segments):
+def own_history(segments: Segments) -> dict[bytes, Revisions]:
+    """Return the revisions in which a target was at each path itself."""
+    found: dict[bytes, Revisions] = {}
+    for segment in segments.segments:
         if segment.path is not None:
-            found.setdefault(segment.path, []).append((segment.lo, segment.hi))
+            found.setdefault(segment.path, Revisions()).add(segment.lo, segment.hi)
     return found
 
 
@@ -240,8 +186,8 @@ def told_apart(held: dict[Life, list[Tallied]]) -> Iterator[tuple[Life, Tallied,
 
 def turns_in(turns: list[int], revisions: list[int]) -> Iterator[int]:
     """Yield the rising revisions that are among others."""
-    for rev in between(turns, revisions[0], revisions[-1]):
-        if between(revisions, rev, rev):
+    for rev in in_range(turns, revisions[0], revisions[-1]):
+        if in_range(revisions, rev, rev):
             yield rev
 
 

@@ -11,9 +11,10 @@ from typing import NamedTuple
 from svnask.history.lives import Life
 from svnask.history.open_history import OpenHistory
 from svnask.mergeinfo.explicit import Explicit
-from svnask.merges.gains import Intervals, candidates, minus, united
-from svnask.merges.value_changes import Difference, MalformedValue, Values, difference
+from svnask.merges.gains import NONE, candidates
+from svnask.merges.value_changes import Difference, MalformedValue, PathRanges, Values, difference
 from svnask.paths import Place, is_at_or_below, rest_below, tops_of
+from svnask.revisions import Revisions
 
 
 def is_mergeinfo_alone(history: OpenHistory, explicit: Explicit, life: Life, rev: int) -> bool:
@@ -25,6 +26,10 @@ def is_mergeinfo_alone(history: OpenHistory, explicit: Explicit, life: Life, rev
         for record in history.records(rev, rev)
         if is_at_or_below(record.path, life.path)
     )
+
+
+# For each source path the revisions that were only recorded as merged.
+Merged = dict[bytes, Revisions]
 
 
 class NearestText(NamedTuple):
@@ -40,9 +45,9 @@ class Recorded:
     def __init__(self, history: OpenHistory) -> None:
         self._history, self._explicit = history, history.explicit
         self._values = Values()
-        self._known: dict[Place, Intervals] = {}
+        self._known: dict[Place, Merged] = {}
 
-    def of(self, places: Iterable[Place]) -> list[Intervals]:
+    def of(self, places: Iterable[Place]) -> list[Merged]:
         """Return what each of some places has that was only recorded."""
         asked = list(places)
         needed = self._needed(asked)
@@ -95,7 +100,7 @@ class Recorded:
                 pass
         return difference(self._effective(before), self._effective(now))
 
-    def _effective(self, nearest: NearestText | None) -> Intervals:
+    def _effective(self, nearest: NearestText | None) -> PathRanges:
         """Return what a text says, which is nothing where it is malformed."""
         if nearest is None:
             return {}
@@ -106,10 +111,10 @@ class Recorded:
             return {}
 
 
-def change(found: Intervals, more: Difference, is_alone: bool) -> None:
+def change(found: Merged, more: Difference, is_alone: bool) -> None:
     """Takes what mergeinfo gained and lost in a revision that perhaps changed nothing else."""
-    for path, intervals in more.lost.items():
-        found[path] = minus(found.get(path, []), intervals)
-    for path, intervals in more.gained.items():
-        before = found.get(path, [])
-        found[path] = united([*before, *intervals]) if is_alone else minus(before, intervals)
+    for path, ranges in more.lost.items():
+        found[path] = found.get(path, NONE) - Revisions(ranges)
+    for path, ranges in more.gained.items():
+        before, gained = found.get(path, NONE), Revisions(ranges)
+        found[path] = before | gained if is_alone else before - gained

@@ -1,7 +1,6 @@
 """Whether the values of `svn:mergeinfo` are sound: what they name was there and was changed, and each says something."""
 from __future__ import annotations
 
-import bisect
 from collections.abc import Iterable, Iterator, Sequence
 from typing import NamedTuple
 
@@ -11,6 +10,7 @@ from svnask.history.open_history import OpenHistory
 from svnask.mergeinfo.explicit import Explicit
 from svnask.mergeinfo.values import Run, Value, value_of
 from svnask.paths import joined, rest_below, tops_of
+from svnask.revisions import Range, Revisions, in_range, rangelist_of
 from svnask.texts import decoded
 
 MALFORMED = "can't be read"
@@ -30,39 +30,8 @@ class Finding(NamedTuple):
     reason: str
 
 
-class Span(NamedTuple):
-    """Neighbouring revisions."""
-
-    lo: int
-    hi: int
-
-
-def text_of(spans: Iterable[Span]) -> bytes:
-    """Revisions as a rangelist has them."""
-    return b",".join(b"%d" % each.lo if each.lo == each.hi else b"%d-%d" % each for each in spans)
-
-
-def spans_of(revisions: Iterable[int]) -> list[Span]:
-    """Rising revisions as spans."""
-    found: list[Span] = []
-    for rev in revisions:
-        if found and found[-1].hi == rev - 1:
-            found[-1] = Span(found[-1].lo, rev)
-        else:
-            found.append(Span(rev, rev))
-    return found
-
-
-def outside(span: Span, others: Sequence[Span]) -> Iterator[Span]:
-    """Yield the parts of a span that are in none of some rising others."""
-    lo = span.lo
-    for other in others:
-        if other.hi >= lo and other.lo <= span.hi:
-            if other.lo > lo:
-                yield Span(lo, other.lo - 1)
-            lo = other.hi + 1
-    if lo <= span.hi:
-        yield Span(lo, span.hi)
+def text_of(ranges: Iterable[Range]) -> bytes:
+    return rangelist_of(ranges).encode("ascii")
 
 
 class Paths:
@@ -71,28 +40,27 @@ class Paths:
     def __init__(self, history: OpenHistory) -> None:
         self._history = history
         self._tree = Tree(history.records())
-        self._lives: dict[bytes, list[Span]] = {}
+        self._lives: dict[bytes, list[Range]] = {}
         self._operative: dict[bytes, list[int]] = {}
 
-    def lives(self, path: bytes) -> list[Span]:
+    def lives(self, path: bytes) -> list[Range]:
         if path not in self._lives:
             found = self._tree.lives(path, self._history.head)
-            self._lives[path] = [Span(life.first, life.last) for life in found]
+            self._lives[path] = [(life.first, life.last) for life in found]
         return self._lives[path]
 
     def ask(self, paths: Iterable[bytes]) -> None:
         """Asks for the operative revisions of paths, all in one run of svnhist."""
         unknown = [path for path in dict.fromkeys(paths) if path not in self._operative]
         new = list(self._history.askable(unknown))
-        queries = {path: [Log(path, life.hi, (life.lo, life.hi)) for life in self.lives(path)] for path in new}
+        queries = {path: [Log(path, hi, (lo, hi)) for lo, hi in self.lives(path)] for path in new}
         answers: Answers = self._history.answers(query for each in queries.values() for query in each)
         for path in new:
             self._operative[path] = sorted(rev for query in queries[path] for rev in answers[query].revisions)
 
-    def operative(self, path: bytes, span: Span) -> list[int]:
-        """The operative revisions of a path in a span, rising."""
-        found = self._operative.get(path, [])
-        return found[bisect.bisect_left(found, span.lo) : bisect.bisect_right(found, span.hi)]
+    def operative(self, path: bytes, lo: int, hi: int) -> Sequence[int]:
+        """Return the operative revisions of a path in a range, rising."""
+        return in_range(self._operative.get(path, []), lo, hi)
 
 
 class NearestValue(NamedTuple):
@@ -122,20 +90,21 @@ def inherited(explicit: Explicit, path: bytes, head: int) -> NearestValue | None
 def findings_of_source(paths: Paths, path: bytes, source: bytes, runs: Sequence[Run]) -> Iterator[Finding]:
     """Yield the faults in the revisions that a value names of a source."""
     lives = paths.lives(source)
-    spans = sorted(Span(run.lo, run.hi) for run in runs)
+    ranges = sorted((run.lo, run.hi) for run in runs)
     if not lives:
-        yield Finding(path, source, text_of(spans), NO_PATH)
+        yield Finding(path, source, text_of(ranges), NO_PATH)
         return
-    gone = [each for span in spans for each in outside(span, lives)]
+    lacking = {each: (Revisions([each]) - Revisions(lives)).ranges for each in ranges}
+    gone = [part for each in ranges for part in lacking[each]]
     if gone:
         yield Finding(path, source, text_of(gone), NO_REVISION)
-    idle = [span for span in spans if not paths.operative(source, span) and not list(outside(span, lives))]
+    idle = [each for each in ranges if not lacking[each] and not paths.operative(source, *each)]
     if idle:
         yield Finding(path, source, text_of(idle), NOT_OPERATIVE)
 
 
 def operative_of(paths: Paths, source: bytes, runs: Iterable[Run]) -> set[int]:
-    return {rev for run in runs for rev in paths.operative(source, Span(run.lo, run.hi))}
+    return {rev for run in runs for rev in paths.operative(source, run.lo, run.hi)}
 
 
 def findings_of_nearest(paths: Paths, path: bytes, value: Value, nearest: NearestValue) -> Iterator[Finding]:
@@ -148,7 +117,7 @@ def findings_of_nearest(paths: Paths, path: bytes, value: Value, nearest: Neares
         whole = operative_of(paths, source, whole_runs(value.get(source, ())))
         is_same, is_empty = is_same and given == own == whole, is_empty and not own
         if given - own:
-            yield Finding(path, source, text_of(spans_of(sorted(given - own))), LACKING.format(above))
+            yield Finding(path, source, text_of(Revisions.of(given - own).ranges), LACKING.format(above))
     # A value of which nothing was ever changed is told of by its sources.
     if value == nearest.value or (is_same and not is_empty):
         yield Finding(path, None, b"", INHERITED.format(above))

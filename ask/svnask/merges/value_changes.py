@@ -11,25 +11,29 @@ from svnask.copy.store import Record
 from svnask.history.open_history import OpenHistory
 from svnask.mergeinfo.explicit import Explicit
 from svnask.mergeinfo.values import Run, line_of, lines_of, source_path
-from svnask.merges.gains import Interval, Intervals, minus, united
 from svnask.merges.traces import Traces
 from svnask.paths import NUL_FOR_SLASH, Place, is_at_or_below, joined, rest_below, tops_of
+from svnask.revisions import Range, Revisions
 
 RECENT = 64
 SIMPLE_RUN = re.compile(rb"([0-9]{1,9})(?:-([0-9]{1,9}))?")
 SIMPLE = re.compile(rb"[0-9]{1,9}(?:-[0-9]{1,9})?(?:,[0-9]{1,9}(?:-[0-9]{1,9})?)*\Z")
 
 
+# For each path some rising ranges. Where one begins and ends matters to Subversion.
+PathRanges = dict[bytes, list[Range]]
+
+
 class Difference(NamedTuple):
     """The ranges that mergeinfo gained, and those that it lost."""
 
-    gained: Intervals
-    lost: Intervals
+    gained: PathRanges
+    lost: PathRanges
 
     def add(self, other: Difference) -> None:
         for total, more in zip(self, other):
-            for path, intervals in more.items():
-                total[path] = united([*total[path], *intervals]) if path in total else intervals
+            for path, ranges in more.items():
+                total[path] = joined_ranges(total[path], ranges) if path in total else ranges
 
 
 class ValueLine(NamedTuple):
@@ -37,8 +41,8 @@ class ValueLine(NamedTuple):
     revisions are no longer inherited as another one."""
 
     path: bytes
-    whole: list[Interval]
-    inheritable: list[Interval]
+    whole: list[Range]
+    inheritable: list[Range]
     # Whether it is as Subversion writes it: a clean path, and runs that rise.
     is_plain: bool
 
@@ -90,22 +94,22 @@ class Values:
             return False
         return True
 
-    def _whole(self, text: bytes) -> Intervals:
+    def _whole(self, text: bytes) -> PathRanges:
         """Return what a text says, whether it is inherited or not."""
-        found: Intervals = {}
+        found: PathRanges = {}
         for line in self._of(text):
             before = found.get(line.path)
-            found[line.path] = line.whole if before is None else united([*before, *line.whole])
+            found[line.path] = line.whole if before is None else joined_ranges(before, line.whole)
         return found
 
-    def inheritable(self, text: bytes, rest: bytes = b"") -> Intervals:
+    def inheritable(self, text: bytes, rest: bytes = b"") -> PathRanges:
         """Return what a path below that has the text inherits."""
-        found: Intervals = {}
+        found: PathRanges = {}
         for line in self._of(text):
             if line.inheritable:
                 path = joined(line.path, rest)
                 before = found.get(path)
-                found[path] = line.inheritable if before is None else united([*before, *line.inheritable])
+                found[path] = line.inheritable if before is None else joined_ranges(before, line.inheritable)
         return found
 
     def _of(self, text: bytes) -> list[ValueLine]:
@@ -127,16 +131,16 @@ def line_in(text: bytes) -> ValueLine:
         path = source_path(name)
         return ValueLine(path, simple, simple, path == name)
     path, runs = line_of(text)
-    inheritable = intervals_of(runs, True)
+    inheritable = ranges_of_runs(runs, True)
     is_plain = text.startswith(path + b":") and is_rising(runs)
-    return ValueLine(path, sorted(inheritable + intervals_of(runs, False)), inheritable, is_plain)
+    return ValueLine(path, sorted(inheritable + ranges_of_runs(runs, False)), inheritable, is_plain)
 
 
-def simple_runs(ranges: bytes) -> list[Interval] | None:
+def simple_runs(ranges: bytes) -> list[Range] | None:
     """Return what most rangelists say: those without `*` that rise. Runs that touch are one."""
     if not SIMPLE.match(ranges):
         return None
-    found: list[Interval] = []
+    found: list[Range] = []
     end = 0
     for first, last in SIMPLE_RUN.findall(ranges):
         lo, hi = int(first), int(last or first)
@@ -149,15 +153,19 @@ def simple_runs(ranges: bytes) -> list[Interval] | None:
     return found
 
 
-def intervals_of(runs: list[Run], inheritable: bool) -> list[Interval]:
-    return united([(run.lo, run.hi) for run in runs if run.inheritable == inheritable])
+def ranges_of_runs(runs: list[Run], inheritable: bool) -> list[Range]:
+    return Revisions((run.lo, run.hi) for run in runs if run.inheritable == inheritable).ranges
+
+
+def joined_ranges(these: list[Range], those: list[Range]) -> list[Range]:
+    return Revisions([*these, *those]).ranges
 
 
 def is_rising(runs: list[Run]) -> bool:
     return all(before.hi < run.lo for before, run in zip(runs, runs[1:]))
 
 
-def differing(known: bytes, other: bytes) -> tuple[Intervals, Intervals]:
+def differing(known: bytes, other: bytes) -> tuple[PathRanges, PathRanges]:
     """The lines in which two texts differ, of those of one path the ranges from the first to the last difference. The
     known one has a plain line for each path. `ValueError` where the other one may not have."""
     these, those = map(lines_of, middles(known, other))
@@ -194,7 +202,7 @@ def rangelists_of(lines: list[bytes]) -> dict[bytes, bytes]:
     return {path: ranges for path, _, ranges in pairs}
 
 
-def read_lines(lines: dict[bytes, bytes]) -> Intervals:
+def read_lines(lines: dict[bytes, bytes]) -> PathRanges:
     """Return what lines say. `ValueError` where one is not plain."""
     found = {}
     for path, ranges in lines.items():
@@ -330,7 +338,7 @@ class MergeinfoChanges:
             return
         found.add(difference(self._effective(*base), self._effective(path, rev)))
 
-    def _effective(self, path: bytes, rev: int) -> Intervals | None:
+    def _effective(self, path: bytes, rev: int) -> PathRanges | None:
         """The mergeinfo that a path has or inherits, None where there is none or it is malformed."""
         for top in tops_of(path):
             text = self._explicit.text(top, rev)
@@ -345,7 +353,7 @@ class MergeinfoChanges:
                     return None
         return None
 
-    def _inherited(self, path: bytes, rev: int) -> Intervals | None:
+    def _inherited(self, path: bytes, rev: int) -> PathRanges | None:
         """The mergeinfo of the nearest path above, as it stands there."""
         _, *above = tops_of(path)
         for top in above:
@@ -358,18 +366,18 @@ class MergeinfoChanges:
         return None
 
 
-def difference(old: Intervals | None, new: Intervals | None) -> Difference:
+def difference(old: PathRanges | None, new: PathRanges | None) -> Difference:
     return Difference(left_of(new or {}, old or {}), left_of(old or {}, new or {}))
 
 
-def left_of(these: Intervals, those: Intervals) -> Intervals:
+def left_of(these: PathRanges, those: PathRanges) -> PathRanges:
     """Return what some mergeinfo has and other has not. A path that only the one has is there without revisions,
     too."""
     found = {}
-    for path, intervals in these.items():
+    for path, ranges in these.items():
         other = those.get(path)
-        if other != intervals:
-            rest = intervals if other is None else united(minus(intervals, other))
+        if other != ranges:
+            rest = ranges if other is None else (Revisions(ranges) - Revisions(other)).ranges
             if rest or other is None:
                 found[path] = rest
     return found
