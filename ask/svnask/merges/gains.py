@@ -5,7 +5,7 @@ was only recorded as merged. What the source of a copy had is not gained by the 
 """
 from __future__ import annotations
 
-from collections.abc import Iterable, Iterator, Sequence
+from collections.abc import Iterable, Iterator
 from typing import NamedTuple
 
 from svnask.engine.queries import Answer, Inherited, LocationSegments, Mergeinfo, Query, Segments, is_askable
