@@ -63,6 +63,8 @@ class Greatest:
             number = max(numbers[2 * at : 2 * at + 2])
             if level + 1 == len(self._levels):
                 self._levels.append([])
+            elif self._levels[level + 1][at : at + 1] == [number]:
+                return
 
     def first(self, at: int, bound: float) -> int | None:
         """Return the first place, from one on, whose number is greater than a bound."""
@@ -128,6 +130,7 @@ class Layout:
         self.step = min(max(usual / (max(graph.places, default=0) + 1), NARROWEST), WIDEST)
         self.left = 0.0
         self._used = uses_of(graph)
+        self._ends_of_names = [self._end_of_name(number) for number in range(len(graph.lanes))]
         self._ends = [self._end_of(number) for number in range(len(graph.lanes))]
         self.rows = list(self._rows())
         self._lengthen()
@@ -206,7 +209,7 @@ class Layout:
         if kind == TRUNK or (kind == BRANCH and len(self._graph.lanes) <= MANY):
             return self.right
         used = self.x(self._graph.column_of(max([lives[-1].first, *revisions[-1:], *self._used.get(lane, [])])))
-        return max(used + GAP, self._end_of_name(lane))
+        return max(used + GAP, self._ends_of_names[lane])
 
     def _lengthen(self) -> None:
         """Draws a branch that is still there to the right, where its row has nothing more."""
@@ -227,7 +230,7 @@ class Layout:
     def _extent(self, lane: int) -> Extent:
         copy = self._copies.get(lane)
         start = self._start_of(lane) if copy is None else self.turn(copy)
-        return Extent(start, max(self._ends[lane] + TAIL, self._end_of_name(lane)))
+        return Extent(start, max(self._ends[lane] + TAIL, self._ends_of_names[lane]))
 
     def _rows(self) -> Iterator[Row]:
         """Puts each lane into the first row with room for it that is below that of its source."""
