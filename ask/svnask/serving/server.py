@@ -33,6 +33,7 @@ from svnask.engine import talk as engine
 from svnask.errors import Error, Failed
 from svnask.serving import sockets
 from svnask.serving.client import CARRIED, SAME, connection_of
+from svnask.serving.sockets import listener
 from svnask.sources.access import Access
 
 # How long a request may take to come, and how long it may be.
@@ -71,23 +72,6 @@ def stop(dump: str, access: Access = Access()) -> None:
     with connection:
         connection.sendall(STOP)
         connection.recv(1)
-
-
-def listener(folder: int, name: str) -> socket.socket:
-    """A socket in an open folder, which has no other one of this name."""
-    sockets.remove_left(folder, name)
-    with sockets.locked(folder):
-        found = socket.socket(socket.AF_UNIX)
-        mask = os.umask(0o177)
-        try:
-            found.bind(f"/proc/self/fd/{folder}/{name}")
-            found.listen()
-        except OSError as error:
-            found.close()
-            raise Failed(f"cannot serve: there is a server, or {name} is in the cache: {error.strerror}", 1) from error
-        finally:
-            os.umask(mask)
-    return found
 
 
 class Gone(BaseException):

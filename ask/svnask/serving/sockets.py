@@ -10,6 +10,7 @@ import stat
 import struct
 from collections.abc import Iterator
 
+from svnask.errors import Failed
 from svnask.files import SOCKET
 
 
@@ -67,3 +68,20 @@ def remove_left(top: int, name: str) -> None:
                 found.close()
             else:
                 os.unlink(name, dir_fd=top)
+
+
+def listener(folder: int, name: str) -> socket.socket:
+    """A socket in an open folder, which has no other one of this name."""
+    remove_left(folder, name)
+    with locked(folder):
+        found = socket.socket(socket.AF_UNIX)
+        mask = os.umask(0o177)
+        try:
+            found.bind(f"/proc/self/fd/{folder}/{name}")
+            found.listen()
+        except OSError as error:
+            found.close()
+            raise Failed(f"cannot serve: there is a server, or {name} is in the cache: {error.strerror}", 1) from error
+        finally:
+            os.umask(mask)
+    return found
