@@ -141,7 +141,7 @@ class Input:
         self.reported = 0
 
     def run(self, report: Path = NOTHING, before: Words = ()) -> Measured:
-        """Runs the program once, after these words."""
+        """Run the program once, after these words."""
         return started([*before, *self.command], report=report, limits=Limits(MOST_SECONDS, self.shape.room))
 
     def run_first(self) -> None:

@@ -138,7 +138,7 @@ def check_same(found: Iterable[Timed], answered: int, subject: str) -> None:
 
 
 def run_in_turns(commands: Iterable[Timed], times: int) -> None:
-    """Runs each command so often, in turns."""
+    """Run each command so often, in turns."""
     commands = list(commands)
     for command in commands:
         command.keep_output()

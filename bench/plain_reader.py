@@ -141,7 +141,7 @@ class History:
                 self.add(headers, section)
 
     def add(self, headers: dict[bytes, bytes], section: bytes) -> None:
-        """Applies a record."""
+        """Apply a record."""
         rev = len(self.trees) - 1
         path = parts_of(headers[b"Node-path"])
         self.ends[-1] += 1

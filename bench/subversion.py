@@ -55,7 +55,7 @@ def loading(repository: Path) -> Words:
 
 
 def load(repository: Path, pieces: Iterable[bytes], seconds: float = math.inf) -> None:
-    """Loads a dump into a repository, piece by piece, up to the piece at which the time is over."""
+    """Load a dump into a repository, piece by piece, up to the piece at which the time is over."""
     began = time.perf_counter()
     with subprocess.Popen(loading(repository), stdin=subprocess.PIPE) as child:
         assert child.stdin is not None

@@ -46,7 +46,7 @@ class Asked:
         return self.question(source)
 
     def grow(self) -> None:
-        """Gives the repository ten revisions."""
+        """Give the repository ten revisions."""
         load(self.repository.folder, [first_lines(), *itertools.islice(self.left, TEN)])
 
     def grown(self, source: str) -> Measured:

@@ -37,7 +37,7 @@ class Dialogue:
         self.open = {child.stdout: self.output, child.stderr: self.errors}
 
     def step(self, until: float, what: str, writing: Sequence[IO[bytes]] = ()) -> bool:
-        """Waits until something can be read, which is done, or written, and returns whether something can be."""
+        """Wait until something can be read, which is done, or written, and returns whether something can be."""
         readable, writable, _ = select.select(list(self.open), writing, [], max(0.0, until - time.monotonic()))
         if not readable and not writable:
             raise TimeoutError(what)
@@ -49,7 +49,7 @@ class Dialogue:
         return bool(writable)
 
     def write(self, text: bytes) -> None:
-        """Writes all bytes, or as many as the program takes before it ends."""
+        """Write all bytes, or as many as the program takes before it ends."""
         until = time.monotonic() + self.seconds
         try:
             while text and not self.input.closed:
@@ -60,13 +60,13 @@ class Dialogue:
             self.input.close()
 
     def wait_for(self, size: int, what: str = "a reply did not come") -> None:
-        """Returns when so many bytes were printed, or the program prints no more."""
+        """Return when so many bytes were printed, or the program prints no more."""
         until = time.monotonic() + self.seconds
         while self.open and len(self.output) < size:
             self.step(until, what)
 
     def wait_for_end(self) -> None:
-        """Returns when the program has ended."""
+        """Return when the program has ended."""
         self.wait_for(sys.maxsize, "the end did not come")
         self.child.wait(self.seconds)
 

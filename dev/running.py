@@ -41,7 +41,7 @@ class Limits:
     memory: int | None = None
 
     def set(self) -> None:
-        """Limits the process that calls this and those that it starts."""
+        """Limit the process that calls this and those that it starts."""
         resource.setrlimit(resource.RLIMIT_CORE, (0, 0))
         if self.memory is not None:
             resource.setrlimit(resource.RLIMIT_AS, (self.memory, self.memory))
@@ -56,7 +56,7 @@ def run(
     environment: Mapping[str, str | None] | None = None,
     folder: Path | None = None,
 ) -> Outcome:
-    """Runs a command whose standard input is this text or file. What it prints may go to a file, and is not kept then.
+    """Run a command whose standard input is this text or file. What it prints may go to a file, and is not kept then.
     The variables stand beside those of this process; one that is None is taken away."""
     variables: dict[str, str | None] = {**os.environ, **(environment or {})}
     with ExitStack() as files:
@@ -108,7 +108,7 @@ def fed_by(feeder: Words, processes: ExitStack) -> IO[bytes] | None:
 
 
 def measure(words: Words, feeder: Words | None = None, file: Path = NOTHING, is_kept: bool = True) -> Measured:
-    """Runs a command whose input is a file or the output of another command. Output that is not kept goes to
+    """Run a command whose input is a file or the output of another command. Output that is not kept goes to
     /dev/null."""
     with ExitStack() as files:
         errors = files.enter_context(tempfile.TemporaryFile())
@@ -133,7 +133,7 @@ def best_of(times: int, runs: Callable[[], Measured]) -> Measured:
 def started(
     words: Words, *, feeder: Words | None = None, report: Path = NOTHING, limits: Limits = Limits(120)
 ) -> Measured:
-    """Runs a command by a small process, since the system counts what the process that starts a command had before as
+    """Run a command by a small process, since the system counts what the process that starts a command had before as
     memory of the command. What it prints goes to a file."""
     starter: Words = [sys.executable, "-I", "-S", STARTER, str(int(limits.seconds)), str(limits.memory or -1), report]
     pipe = subprocess.PIPE

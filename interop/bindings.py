@@ -94,7 +94,7 @@ class Opened:
         return found
 
     def set_mergeinfo(self, texts: Mapping[str, bytes | None]) -> None:
-        """Makes a revision that gives paths these texts of svn:mergeinfo, unchecked and unchanged; None removes one."""
+        """Make a revision that gives paths these texts of svn:mergeinfo, unchecked and unchanged; None removes one."""
         transaction = fs.begin_txn2(self._stored, fs.youngest_rev(self._stored), 0)
         for path, text in texts.items():
             fs.change_node_prop(fs.txn_root(transaction), path.encode(), MERGEINFO, text)

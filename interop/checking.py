@@ -86,7 +86,7 @@ def wrong_ways(program: Path, recorded: Recorded, report: bytes) -> list[str]:
 
 
 def compare(program: Path, recorded: Recorded) -> Compared:
-    """Compares the answers about one dump."""
+    """Compare the answers about one dump."""
     queries = recorded.lines()
     found = run([program], recorded.bundle(queries), limits=LIMITS)
     if found.status != 0:

@@ -31,7 +31,7 @@ class Draft:
         return not any(is_below(path, other) or is_below(other, path) for other in self.touched)
 
     def put_at(self, path: str, kinds: Tree) -> None:
-        """Replaces all at and below a path."""
+        """Replace all at and below a path."""
         kept = {other: kind for other, kind in self.tree.items() if not is_below(other, path)}
         self.tree = {**kept, **{path + rest: kind for rest, kind in kinds.items()}}
         self.touched.append(path)

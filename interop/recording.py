@@ -33,7 +33,7 @@ FLAGS = (
 
 
 def write_files(into: Path, name: str, dump: bytes, queries: Sequence[str], answers: Sequence[Answer]) -> None:
-    """Writes the dump, the queries, and the answers in the form of the program's report, where only `ok` has result
+    """Write the dump, the queries, and the answers in the form of the program's report, where only `ok` has result
     lines."""
     report = "".join(
         f"#{number} {status}\n" + "".join(line + "\n" for line in lines if status == "ok")
@@ -45,7 +45,7 @@ def write_files(into: Path, name: str, dump: bytes, queries: Sequence[str], answ
 
 
 def record_values(into: Path, differing: bool) -> str:
-    """Records what Subversion's parser makes of the texts of values.py; returns a summary."""
+    """Record what Subversion's parser makes of the texts of values.py; returns a summary."""
     texts = values.drawn(600)
     causes = [values.causes(text, parsed) for text in texts]
     kept = [text for text, found in zip(texts, causes) if bool(found) == differing]
@@ -58,7 +58,7 @@ def record_values(into: Path, differing: bool) -> str:
 
 
 def record(tools: Tools, make: histories.Make, given: argparse.Namespace) -> str:
-    """Makes one repository and records it; returns a summary."""
+    """Make one repository and records it; returns a summary."""
     name = make.__name__
     folder = Path(tempfile.mkdtemp(dir=tools.folder))
     shop = Workshop(tools, folder)
@@ -82,7 +82,7 @@ def record(tools: Tools, make: histories.Make, given: argparse.Namespace) -> str
 
 
 def record_outputs(tools: Tools, name: str, into: Path) -> str:
-    """Records what the command `svn` prints about the repository of a recorded dump; returns a summary."""
+    """Record what the command `svn` prints about the repository of a recorded dump; returns a summary."""
     folder = Path(tempfile.mkdtemp(dir=tools.folder))
     loaded = Repository(tools, folder / "loaded")
     tools.load(loaded.folder, (INTEROP / (name + ".dump")).read_bytes())

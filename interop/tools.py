@@ -36,7 +36,7 @@ class Tools:
         return int(self.run("svnlook", "youngest", repository))
 
     def load(self, repository: Path, dump: bytes) -> None:
-        """Makes a repository of a dump."""
+        """Make a repository of a dump."""
         self.run("svnadmin", "create", repository)
         options = ("-q", "--force-uuid", "--bypass-prop-validation", "--no-flush-to-disk")
         self.run("svnadmin", "load", *options, repository, given=dump)

@@ -27,7 +27,7 @@ def report(program: Path, recorded: Recorded, workers: int) -> bytes:
 
 
 def compare_all(program: Path, times: int = TIMES) -> Iterator[tuple[str, int]]:
-    """Compares so many reports, in turn on each of the dumps: its name, and how many of its reports differ."""
+    """Compare so many reports, in turn on each of the dumps: its name, and how many of its reports differ."""
     dumps = recorded_in()
     for turn, recorded in enumerate(dumps):
         wanted = report(program, recorded, 1)

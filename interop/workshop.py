@@ -45,7 +45,7 @@ class Workshop:
         self.svn("add", "--no-auto-props", guarded(path))
 
     def move(self, paths: Mapping[str, str]) -> None:
-        """Moves paths to others, one after another."""
+        """Move paths to others, one after another."""
         for source, path in paths.items():
             self.svn("move", guarded(source), "./" + path)
 
@@ -56,7 +56,7 @@ class Workshop:
         self.svn("delete", guarded(path))
 
     def set(self, path: str, properties: Mapping[str, bytes | None]) -> None:
-        """Gives a path these properties; None removes one."""
+        """Give a path these properties; None removes one."""
         for name, value in properties.items():
             if value is None:
                 self.svn("propdel", name, guarded(path))
@@ -65,7 +65,7 @@ class Workshop:
                 self.svn("propset", name, "-F", self.scrap, guarded(path))
 
     def commit(self, message: str, files: Mapping[str, str | bytes] | None = None, update: bool = True) -> None:
-        """Commits the working copy with these files, and then updates it unless `update` is false."""
+        """Commit the working copy with these files, and then updates it unless `update` is false."""
         if files:
             self.write(files)
         self.svn("commit", "-m", message)
@@ -73,7 +73,7 @@ class Workshop:
             self.svn("update")
 
     def merge(self, message: str, *words: str) -> None:
-        """Commits what `svn merge` with these arguments does."""
+        """Commit what `svn merge` with these arguments does."""
         self.svn("merge", *words)
         self.commit(message)
 

@@ -67,7 +67,7 @@ class Draft:
             self.record(b"change", ())
 
     def draw_format(self) -> None:
-        """Draws the format of the dump, and the shares of its records that have property sections and deltas."""
+        """Draw the format of the dump, and the shares of its records that have property sections and deltas."""
         lot = self.lot
         self.format = lot.choice((2, 3))
         # Those of deletions come second.
@@ -88,7 +88,7 @@ class Draft:
     # Blocks
 
     def block(self, lines: list[bytes], section: bytes | None = None, text: bytes | None = None) -> None:
-        """Adds a block, which may have a property section and a text."""
+        """Add a block, which may have a property section and a text."""
         lot = self.lot
         if section is not None:
             lines.append(b"Prop-content-length: %s%d" % (lot.choice((b"", b"", b"", b"0")), len(section)))
@@ -111,7 +111,7 @@ class Draft:
         self.blocks.append(Block(lines, body))
 
     def record(self, action: bytes, path: Path, kind: bytes | None = None, source: Place | None = None) -> None:
-        """Adds a record, which may be that of a copy."""
+        """Add a record, which may be that of a copy."""
         lines = [b"Node-path: " + self.spelled(path), b"Node-action: " + action]
         self.named.append(Place(path, len(self.trees) - 1))
         if source is not None:
@@ -286,7 +286,7 @@ class Draft:
         self.trees[-1] = {each: kind for each, kind in self.trees[-1].items() if not is_below(each, path)}
 
     def put(self, action: bytes, path: Path | None) -> None:
-        """Adds or replaces a path, mostly as a copy where that leaves the tree small."""
+        """Add or replaces a path, mostly as a copy where that leaves the tree small."""
         if path is None:
             return
         if action == b"replace" and self.chance(0.4):
@@ -341,7 +341,7 @@ class Draft:
             self.record(*lot.choice(found), None, Place(source.path + (b"none",), source.revision))
 
     def revision(self, is_faulty: bool) -> None:
-        """Adds a revision with a few records, one of them faulty if that is wanted."""
+        """Add a revision with a few records, one of them faulty if that is wanted."""
         lot = self.lot
         rev = len(self.trees)
         self.block([b"Revision-number: %d" % rev], lot.choice((None, END, b"log\n\n")))

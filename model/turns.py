@@ -53,7 +53,7 @@ def may_change(front: bytes, number: int, at: int) -> bool:
 
 
 def raise_decided(front: bytes) -> None:
-    """Raises the refusal of each dump that begins with these bytes, if they decide one."""
+    """Raise the refusal of each dump that begins with these bytes, if they decide one."""
     try:
         definitions.records_of(front)
     except NoReport as reason:

@@ -49,7 +49,7 @@ def tarball(files: Sequence[File], when: int) -> bytes:
 
 
 def place(files: Sequence[File], folder: Path, when: int) -> None:
-    """Writes files below a folder, with their modes, whatever the mask of this process is, and one time."""
+    """Write files below a folder, with their modes, whatever the mask of this process is, and one time."""
     for each in folders_of(files):
         (folder / each).mkdir(parents=True, exist_ok=True)
         (folder / each).chmod(0o755)

@@ -40,7 +40,7 @@ def tested() -> tuple[str, Mapping[str, str]]:
 
 
 def judge_program(program: Program, sums: Mapping[str, str]) -> None:
-    """Refuses a program that is not built from the sources, and one of which `./test` did not take this checksum."""
+    """Refuse a program that is not built from the sources, and one of which `./test` did not take this checksum."""
     path = str(program.built().relative_to(ROOT))
     if content(program.made_from()).decode() != printed(["scripts/list-sources", program.crate, path]) + "\n":
         raise NotMade(f"{program.name} is not built from these sources")
@@ -49,7 +49,7 @@ def judge_program(program: Program, sums: Mapping[str, str]) -> None:
 
 
 def judge_tree() -> None:
-    """Refuses a tree that `./test` did not pass on, and programs that it did not make."""
+    """Refuse a tree that `./test` did not pass on, and programs that it did not make."""
     if printed(["git", "status", "--porcelain"]):
         raise NotMade("the tree has changes that are not committed")
     tree, sums = tested()
@@ -60,7 +60,7 @@ def judge_tree() -> None:
 
 
 def check(paths: Sequence[Path]) -> None:
-    """Runs all checks of the programs on files."""
+    """Run all checks of the programs on files."""
     if subprocess.run([ROOT / "tests" / "program", *paths], cwd=ROOT, check=False).returncode:
         raise NotMade("the programs that are to be released did not pass")
 

@@ -11,7 +11,7 @@ from dev.tree import EXAMPLES, Programs, programs
 
 
 def need(crate: str, program: Path) -> None:
-    """Skips a test without the program that it needs, unless the environment names that program: then it fails."""
+    """Skip a test without the program that it needs, unless the environment names that program: then it fails."""
     if os.access(program, os.X_OK) and program.is_file():
         return
     if os.environ.get(crate.upper()):

@@ -28,7 +28,7 @@ def copied_tree(folder: Path, programs: Programs | None = None, parts: Sequence[
 
 
 def place_program(root: Path, crate: str, program: Path) -> None:
-    """Puts the program of a crate where a build leaves it, with the list of the sources that it is made from."""
+    """Put the program of a crate where a build leaves it, with the list of the sources that it is made from."""
     out = Path("crates", crate, "out")
     (root / out).mkdir(parents=True, exist_ok=True)
     shutil.copy(program, root / out / crate)
@@ -39,7 +39,7 @@ def place_program(root: Path, crate: str, program: Path) -> None:
 
 
 def make_command(folder: Path, name: str, lines: Sequence[str]) -> None:
-    """Makes a shell script as a stand-in for a command."""
+    """Make a shell script as a stand-in for a command."""
     folder.mkdir(exist_ok=True)
     path = folder / name
     path.write_text("".join(f"{line}\n" for line in ("#!/bin/sh", *lines)), "utf-8")

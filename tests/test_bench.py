@@ -147,7 +147,7 @@ class Written(NamedTuple):
 
 
 def write(command: str, report: object, text: str, *words: str) -> Written:
-    """Calls a command with this report and a file with this text."""
+    """Call a command with this report and a file with this text."""
     with tempfile.TemporaryDirectory() as folder:
         measured, path = Path(folder) / "measured.json", Path(folder) / "written"
         measured.write_text(json.dumps(report), encoding="utf-8")

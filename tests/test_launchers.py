@@ -106,7 +106,7 @@ class Tree:
         return min((self.root / "crates" / crate / "src").glob("*.rt"))
 
     def set_toolchain(self, *lines: str) -> None:
-        """Makes the command `rt`, which notes the start and the end of each call, and forgets the calls so far."""
+        """Make the command `rt`, which notes the start and the end of each call, and forgets the calls so far."""
         self.notes.write_text("")
         start = f'crate=$(basename "$PWD"); echo "start $crate $1 $$" >>"{self.notes}"'
         make_command(self.tools, "rt", [start, *lines, f'echo "end $crate" >>"{self.notes}"'])
@@ -247,7 +247,7 @@ def signals(are_ignored: bool) -> Iterator[None]:
 
 
 def pass_over(_number: int, _frame: FrameType | None) -> None:
-    """Ignores a signal here alone: a program that is started does not inherit a handler."""
+    """Ignore a signal here alone: a program that is started does not inherit a handler."""
 
 
 def launcher_of_svnhist(tree: Tree) -> Launcher:
@@ -297,7 +297,7 @@ class LauncherTest(ProgramTest):
     live: Launcher
 
     def copy(self, folder: Path) -> None:
-        """Makes the tree in a folder."""
+        """Make the tree in a folder."""
         copied_tree(folder)
 
     def setUp(self) -> None:
@@ -307,7 +307,7 @@ class LauncherTest(ProgramTest):
         self.svnhist, self.live = launcher_of_svnhist(self.tree), launcher_of_svnhist_live(self.tree)
 
     def fits(self, name: str, found: Outcome, status: int, output: str, errors: str) -> None:
-        """Compares the status of a call, and its output and errors with patterns."""
+        """Compare the status of a call, and its output and errors with patterns."""
         texts = [re.fullmatch(output.encode(), found.output), re.fullmatch(errors.encode(), found.errors)]
         is_so = found.status == status and all(texts)
         self.compare(name, found if is_so else (status, output, errors), found)
@@ -377,7 +377,7 @@ class LaterCalls(LauncherTest):
         return process
 
     def build_both(self) -> list[str]:
-        """Builds svnhist-live, too, and gives the crates that it alone needs."""
+        """Build svnhist-live, too, and gives the crates that it alone needs."""
         self.works("svnhist-live is built", self.live, ".*\n(.*\n)*")
         self.tree.set_working_toolchain()
         return sorted(set(self.live.needed) - set(self.svnhist.needed))

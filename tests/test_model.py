@@ -12,7 +12,7 @@ SEEDS = range(1, 301)
 
 class DrawnTest(ProgramTest):
     def check_seeds(self, comparison: comparing.Comparison, program: Path) -> None:
-        """Compares a program with the model on all seeds. The files of those that differ are kept."""
+        """Compare a program with the model on all seeds. The files of those that differ are kept."""
         folder = Path(tempfile.mkdtemp(prefix="svnhist-fuzz-"))
         runs = 0
         for found in comparing.compare(comparison.judge, program, folder, SEEDS):

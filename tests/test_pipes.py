@@ -55,7 +55,7 @@ def dumps() -> dict[str, bytes]:
 
 
 def open_to_write(path: Path, seconds: float) -> int | None:
-    """Opens a named pipe that the program has opened to read, or will within so many seconds. None if it doesn't."""
+    """Open a named pipe that the program has opened to read, or will within so many seconds. None if it doesn't."""
     end = time.monotonic() + seconds
     while True:
         try:

@@ -67,7 +67,7 @@ def dead_links(root: Path) -> list[str]:
 
 
 def without_git() -> dict[str, Optional[str]]:
-    """Takes away what names another repository."""
+    """Take away what names another repository."""
     return {name: None for name in os.environ if name.startswith("GIT_")}
 
 
@@ -215,7 +215,7 @@ class Wheels(ProgramTest):
         )
 
     def check_installed(self, name: str, programs: Path, variables: Mapping[str, Optional[str]]) -> None:
-        """Asks the first questions, by programs that are not on the path."""
+        """Ask the first questions, by programs that are not on the path."""
         environment: dict[str, Optional[str]] = dict.fromkeys(("SVNHIST", "SVNHIST_LIVE", "PYTHONPATH"))
         environment["XDG_CACHE_HOME"] = str(self.folder / "cache")
         environment.update(variables)

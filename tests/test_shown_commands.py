@@ -117,7 +117,7 @@ class ShownCommands(ProgramTest):
         return (done.output + done.errors).decode("utf-8", "replace")
 
     def check_commands(self, root: Path) -> None:
-        """Runs the commands of all pages, but for those of GNU parallel where that is not installed: moreutils has
+        """Run the commands of all pages, but for those of GNU parallel where that is not installed: moreutils has
         another command of this name."""
         environment = self.environment_of(root)
         has_parallel = self.output_of("parallel --version", root, environment).startswith("GNU parallel")

@@ -24,7 +24,7 @@ def checked() -> list[str]:
 
 class Sources(unittest.TestCase):
     def check(self, program: str, *options: str) -> None:
-        """Calls a program, which ends with 0 where it has nothing to say against the sources."""
+        """Call a program, which ends with 0 where it has nothing to say against the sources."""
         if shutil.which(program) is None:
             self.skipTest(f"{program} is not installed")
         # What stands in this folder may not take the place of what the program imports.

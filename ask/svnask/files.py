@@ -22,7 +22,7 @@ NEW = "new-"
 
 
 def opener(path: str, flags: int) -> int:
-    """Opens a file for `open`, without waiting. `OSError` where it is a pipe, or anything else but a regular file."""
+    """Open a file for `open`, without waiting. `OSError` where it is a pipe, or anything else but a regular file."""
     descriptor = os.open(path, flags | os.O_NONBLOCK | os.O_CLOEXEC, 0o666)
     if not stat.S_ISREG(os.fstat(descriptor).st_mode):
         os.close(descriptor)
@@ -47,7 +47,7 @@ def cache_folder() -> str | None:
 
 
 def remove(path: str) -> None:
-    """Takes a folder out of the cache. Runs that have it open go on with it."""
+    """Take a folder out of the cache. Runs that have it open go on with it."""
     with contextlib.suppress(OSError):
         aside = tempfile.mkdtemp(prefix=NEW, dir=os.path.dirname(path))
         with contextlib.suppress(OSError):

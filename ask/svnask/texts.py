@@ -23,7 +23,7 @@ def escaped(found: re.Match[str]) -> str:
 
 
 def say(*lines: str) -> None:
-    """Prints lines on standard error, where anybody reads them. Control characters, by which a name could rule the
+    """Print lines on standard error, where anybody reads them. Control characters, by which a name could rule the
     terminal, are shown as `\\x1b`, and so are those that turn the direction of what follows."""
     if sys.stderr is None:
         return

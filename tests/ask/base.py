@@ -56,7 +56,7 @@ def command(*words: Word) -> list[Word]:
 
 
 def run(*words: Word, given: bytes | Path = b"", **variables: str) -> Done:
-    """Runs the command with this standard input, and these variables of the environment."""
+    """Run the command with this standard input, and these variables of the environment."""
     done = running.run(command(*words), given, environment=variables)
     return Done(done.status, done.output, done.errors.decode("utf-8", "replace"))
 
@@ -91,7 +91,7 @@ def signals_end() -> Iterator[None]:
 
 
 def wait_for(is_so: Callable[[], object]) -> None:
-    """Waits until something is so, which it should be soon."""
+    """Wait until something is so, which it should be soon."""
     end = time.monotonic() + 60
     while not is_so():
         if time.monotonic() > end:

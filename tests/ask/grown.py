@@ -66,7 +66,7 @@ class Grown:
         self.grow(count)
 
     def grow(self, count: int) -> None:
-        """Gives it the next revisions."""
+        """Give it the next revisions."""
         pieces = b"".join(self.pieces[self.count : self.count + count])
         words = ("svnadmin", "load", "-q", "--force-uuid", "--bypass-prop-validation", self.folder)
         svn(*words, given=self.front + pieces)

@@ -36,7 +36,7 @@ class Askers(base.Case):
             grown.svn("svn", "mkdir", "-q", "-m", "Add", *(f"{repository.as_uri()}/{path}" for path in paths))
 
     def check(self, name: str, url: str, *words: str) -> None:
-        """Compares with what svn prints for the same user."""
+        """Compare with what svn prints for the same user."""
         theirs = grown.svn("svn", *user(name), words[0], url, *words[1:])
         ours = base.called(*user(name), url, *words)
         self.assertEqual((ours.status, ours.output, ours.said), (0, theirs.output, ""), (name, url, words))

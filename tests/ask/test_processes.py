@@ -209,7 +209,7 @@ class LongCommands(base.Case):
 
 
 def wait_for_end(group: int) -> None:
-    """Waits until no process is left of a group."""
+    """Wait until no process is left of a group."""
 
     def is_over() -> bool:
         try:

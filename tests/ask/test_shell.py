@@ -135,7 +135,7 @@ class Shell(base.Case):
                 shell.kill()
 
     def until(self, terminal: int, wanted: bytes) -> None:
-        """Reads what is shown, up to what is wanted."""
+        """Read what is shown, up to what is wanted."""
         shown = b""
         while wanted not in shown:
             self.assertTrue(select.select([terminal], [], [], 30)[0], shown)

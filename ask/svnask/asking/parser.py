@@ -121,7 +121,7 @@ def parsed(words: list[str]) -> argparse.Namespace:
 
 
 def need_source(words: list[str]) -> None:
-    """Refuses words in which a verb stands where a source should, if there is no file of that name."""
+    """Refuse words in which a verb stands where a source should, if there is no file of that name."""
     plain = [words[at] for at in places(words)[:2]]
     if (
         plain

@@ -34,7 +34,7 @@ def source_in(given: argparse.Namespace) -> Source:
 
 
 def need_folder(name: str) -> None:
-    """Raises an error where a name is one in the working folder, and that was deleted."""
+    """Raise an error where a name is one in the working folder, and that was deleted."""
     if name != "-" and not IS_URL.match(name) and not os.path.isabs(name):
         try:
             os.getcwd()
@@ -62,7 +62,7 @@ class Stale(Exception):
 def tell(
     history: OpenHistory, given: argparse.Namespace, write: Callable[[bytes], object], is_last: bool = False
 ) -> None:
-    """Answers a question about a history, the last one or not."""
+    """Answer a question about a history, the last one or not."""
     history.is_last_question = is_last
     is_begun = False
     history.notice = note

@@ -336,7 +336,7 @@ def lines_for(shell: str, breaks: str, *typed: str, until: float) -> list[str]:
 
 
 def complete(words: Sequence[str], begun_at: float) -> int:
-    """Prints what may stand at the cursor, or nothing where anything fails."""
+    """Print what may stand at the cursor, or nothing where anything fails."""
     try:
         text = "".join(f"{line}\n" for line in lines_for(*words, until=begun_at + LONGEST))
         sys.stdout.buffer.write(text.encode("utf-8", "surrogateescape"))

@@ -19,7 +19,7 @@ def raise_stopped(number: int, frame: object) -> NoReturn:
 
 
 def end_by(number: int) -> NoReturn:
-    """Ends the process as the signal would have ended it."""
+    """End the process as the signal would have ended it."""
     signal.signal(number, signal.SIG_DFL)
     os.kill(os.getpid(), number)
     raise SystemExit(128 + number)

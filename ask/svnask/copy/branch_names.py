@@ -120,7 +120,7 @@ class BranchNames:
                 self._below[top].add(path)
 
     def _remove(self, path: bytes) -> None:
-        """Takes away a path and those below it."""
+        """Take away a path and those below it."""
         for each in list(self._below.get(path, ())):
             for top in tops_of(each):
                 self._below[top].discard(each)

@@ -140,7 +140,7 @@ class Combined:
         self._below: dict[bytes, list[bytes]] | None = None
 
     def add(self, change: Change) -> None:
-        """Adds what one more record does, as the change that it would be alone."""
+        """Add what one more record does, as the change that it would be alone."""
         path, letter = change.path, change.letter
         before = self._found.get(path)
         if before is None and letter in "AM":
@@ -168,7 +168,7 @@ class Combined:
             below.setdefault(top, []).append(path)
 
     def _remove(self, path: bytes) -> None:
-        """Removes the changes at and below a path."""
+        """Remove the changes at and below a path."""
         if self._below is None:
             self._below = {}
             for each in self._found:

@@ -249,7 +249,7 @@ class Store:
             shutil.rmtree(self._folder, ignore_errors=True)
 
     def forget(self) -> None:
-        """Takes the folder out of the cache, where it is kept."""
+        """Take the folder out of the cache, where it is kept."""
         if self.is_kept:
             files.remove(self._folder)
 
@@ -278,7 +278,7 @@ class Store:
                 raise Damaged
 
     def write(self, file: IO[bytes]) -> None:
-        """Writes the whole copy to a file."""
+        """Write the whole copy to a file."""
         for part in self.first, self.later:
             with memoryview(part) as whole:
                 file.write(whole)

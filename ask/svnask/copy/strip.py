@@ -100,12 +100,12 @@ class Copy:
         self.fault: str | None = None
 
     def add(self, piece: bytes) -> None:
-        """Takes the next bytes of the copy."""
+        """Take the next bytes of the copy."""
         self.length += len(piece)
         self.sums[-1] = zlib.crc32(piece, self.sums[-1])
 
     def begin_revision(self, section: bytes) -> None:
-        """Takes the property section of the next revision, which begins here."""
+        """Take the property section of the next revision, which begins here."""
         rev = len(self.revisions)
         if rev and DATE not in section:
             first = self.undated.pop()[0] if self.undated and self.undated[-1][1] == rev - 1 else rev
@@ -210,7 +210,7 @@ class Stripper:
         self._is_piece = False
 
     def run(self, seen: Callable[[int], object] = lambda read: None, has_first_line: bool = True) -> Copy:
-        """Copies the whole dump, or what comes after a part that is known. `seen` is told now and then how many bytes
+        """Copy the whole dump, or what comes after a part that is known. `seen` is told now and then how many bytes
         were read. A piece that Subversion wrote has the first line of a dump and its UUID again."""
         self._is_piece = has_first_line and self.copy.format > 0
         try:
@@ -254,7 +254,7 @@ class Stripper:
         return len(line)
 
     def _block(self, at: int) -> int:
-        """Copies the block that begins at this place or after some newlines. The place after it, or -1 at the end."""
+        """Copy the block that begins at this place or after some newlines. The place after it, or -1 at the end."""
         at = self.source.next_block(at)
         if at < 0:
             return at
@@ -265,7 +265,7 @@ class Stripper:
         return self._any_block(at)
 
     def _revision_in_order(self, at: int) -> int:
-        """Copies a revision whose headers are in the order of Subversion and which is whole in the window, or none. The
+        """Copy a revision whose headers are in the order of Subversion and which is whole in the window, or none. The
         place after it."""
         data = self.source.data
         found = REVISION.match(data, at)
@@ -301,7 +301,7 @@ class Stripper:
         return at
 
     def _record_in_order(self, at: int) -> int:
-        """Copies one record as `_records` does, or none."""
+        """Copy one record as `_records` does, or none."""
         data = self.source.data
         found = RECORD.match(data, at)
         if found is None:
@@ -337,7 +337,7 @@ class Stripper:
             self.copy.renewals.append((rev, clean(found[1])))
 
     def _any_block(self, at: int) -> int:
-        """Copies a block whose headers come in any order."""
+        """Copy a block whose headers come in any order."""
         source = self.source
         end = source.data.find(b"\n\n", at)
         lines = bytes(source.data[at : end + 2] if end >= 0 else source.data[at:])

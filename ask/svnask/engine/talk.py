@@ -158,7 +158,7 @@ class Talk:
                 self.close()
 
     def grow(self, piece: Buffer) -> None:
-        """Gives a further piece of the dump."""
+        """Give a further piece of the dump."""
         with self._lock:
             self._keep_open()
             self._unready += 1
@@ -166,7 +166,7 @@ class Talk:
             self._writer.put(piece)
 
     def close(self) -> None:
-        """Ends the program, whatever it does."""
+        """End the program, whatever it does."""
         end_group(self._process, signal.SIGTERM)
         with self._lock:
             self._close()
@@ -180,7 +180,7 @@ class Talk:
             return self._take(asked)
 
     def _keep_open(self) -> None:
-        """Reads the replies that somebody has not taken yet, since what follows is for somebody else."""
+        """Read the replies that somebody has not taken yet, since what follows is for somebody else."""
         asked, self._open = self._open, None
         try:
             while asked is not None and asked.next < asked.end:
@@ -246,7 +246,7 @@ def query_line(query: Query[A]) -> bytes:
 
 
 def end_group(process: subprocess.Popen[bytes], number: int) -> None:
-    """Sends a signal to a program that runs, and to what it started."""
+    """Send a signal to a program that runs, and to what it started."""
     with suppress(OSError):
         if process.poll() is None:
             os.killpg(process.pid, number)

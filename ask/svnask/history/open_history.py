@@ -120,7 +120,7 @@ class OpenHistory:
         return self._store.is_loaded or self._store.is_kept and isinstance(error, Damaged)
 
     def forget(self) -> None:
-        """Takes what was read out of the cache."""
+        """Take what was read out of the cache."""
         self._store.forget()
 
     @property
@@ -141,7 +141,7 @@ class OpenHistory:
         self.close()
 
     def close(self) -> None:
-        """Ends the program that is asked, and removes what was read, unless it is in the cache."""
+        """End the program that is asked, and removes what was read, unless it is in the cache."""
         self.rest()
         self._store.close()
         if self._file is not None:
@@ -171,7 +171,7 @@ class OpenHistory:
         self._talking()
 
     def renew(self, source: Source, progress: Progress, is_cached: bool = True, is_offline: bool = False) -> None:
-        """Goes on with the source as it is now, by the name that it is given now."""
+        """Go on with the source as it is now, by the name that it is given now."""
         self.source = source
         try:
             if not self._is_current(source, is_cached, is_offline):
@@ -191,7 +191,7 @@ class OpenHistory:
         return is_offline or source.is_as_kept(self._store)
 
     def take(self, store: Store) -> None:
-        """Goes on with another store of the same dump. Where only more came later, svnhist is given that."""
+        """Go on with another store of the same dump. Where only more came later, svnhist is given that."""
         before, self._store = self._store, store
         state, self._state = self._state, os.stat(store.base)
         self._refused = None
@@ -206,7 +206,7 @@ class OpenHistory:
         before.close()
 
     def rest(self) -> None:
-        """Ends the program that is asked. The next question starts it again."""
+        """End the program that is asked. The next question starts it again."""
         if self._end is not None:
             self._end()
         self._talk = self._end = None
@@ -262,7 +262,7 @@ class OpenHistory:
         return self._store.between(0, 1 << 12)
 
     def check(self) -> None:
-        """Raises `Refused` where svnhist refuses the dump.
+        """Raise `Refused` where svnhist refuses the dump.
 
         >>> history.check()
         >>> with History.open("interop/branches.svn") as other:
@@ -372,7 +372,7 @@ class OpenHistory:
         return self._store.records(first, last)
 
     def _read_telling(self) -> tuple[Tree, Explicit]:
-        """Reads what made and unmade paths, and gave them mergeinfo. The records are not kept."""
+        """Read what made and unmade paths, and gave them mergeinfo. The records are not kept."""
         explicit = Explicit(())
 
         def applied() -> Iterator[Record]:

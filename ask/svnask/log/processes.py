@@ -72,7 +72,7 @@ class Maker:
         return found if len(found) == count else None
 
     def close(self) -> None:
-        """Waits until the process has ended, which it does at the next piece that nobody can read."""
+        """Wait until the process has ended, which it does at the next piece that nobody can read."""
         self._stream.close()
         # Where the caller of the command ignores the end of processes, nobody can wait for one.
         with suppress(ChildProcessError):
@@ -90,7 +90,7 @@ def signals_blocked() -> Iterator[Iterable[int]]:
 
 
 def give(pieces: Iterable[bytes], write_end: int, blocked: Iterable[int], others: Iterable[IO[bytes]]) -> NoReturn:
-    """Writes pieces into a pipe and ends this process, whatever happens. It must not go on as the one of which it is a
+    """Write pieces into a pipe and ends this process, whatever happens. It must not go on as the one of which it is a
     copy, nor undo what that one did."""
     try:
         for stream in others:

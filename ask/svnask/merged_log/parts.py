@@ -39,7 +39,7 @@ class Rest:
         return not self._ranges
 
     def pass_by(self) -> None:
-        """Goes on with the next range."""
+        """Go on with the next range."""
         self.first, self.last = self._ranges.pop()
 
     def ranges(self) -> list[Range]:

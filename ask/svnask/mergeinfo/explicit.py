@@ -61,7 +61,7 @@ class Explicit:
             self._texts[path].append(text)
 
     def apply(self, record: Record) -> None:
-        """Takes the next record of a dump."""
+        """Take the next record of a dump."""
         if record.action != "change":
             for path, _ in list(self.below(record.path, record.rev)):
                 self._put(path, record.rev, None)

@@ -76,11 +76,11 @@ class Tally:
         self._lost: list[Tallied] = []
 
     def begin(self, value: Rangelists) -> None:
-        """Takes what the source of the copy had."""
+        """Take what the source of the copy had."""
         self._value = value
 
     def turn(self, rev: int, value: Rangelists) -> None:
-        """Takes the mergeinfo from a revision on."""
+        """Take the mergeinfo from a revision on."""
         for path in self._value.keys() | value.keys():
             if self._value.get(path) == value.get(path):
                 continue

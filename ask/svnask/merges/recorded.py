@@ -68,7 +68,7 @@ class Recorded:
         return needed
 
     def _walk(self, life: Life, revisions: list[int]) -> None:
-        """Notes what a life has in some rising revisions."""
+        """Note what a life has in some rising revisions."""
         found = dict(self._known[life.source]) if life.source is not None else {}
         before = self._nearest(*life.source) if life.source is not None else None
         left = iter(revisions)
@@ -112,7 +112,7 @@ class Recorded:
 
 
 def change(found: Merged, more: Difference, is_alone: bool) -> None:
-    """Takes what mergeinfo gained and lost in a revision that perhaps changed nothing else."""
+    """Take what mergeinfo gained and lost in a revision that perhaps changed nothing else."""
     for path, ranges in more.lost.items():
         found[path] = found.get(path, NONE) - Revisions(ranges)
     for path, ranges in more.gained.items():

@@ -50,7 +50,7 @@ class Paths:
         return self._lives[path]
 
     def ask(self, paths: Iterable[bytes]) -> None:
-        """Asks for the operative revisions of paths, all in one run of svnhist."""
+        """Ask for the operative revisions of paths, all in one run of svnhist."""
         unknown = [path for path in dict.fromkeys(paths) if path not in self._operative]
         new = list(self._history.askable(unknown))
         queries = {path: [Log(path, hi, (lo, hi)) for lo, hi in self.lives(path)] for path in new}

@@ -83,7 +83,7 @@ class Traces:
         return self._piece(path, rev) is not None or self._tree.exists(path, rev)
 
     def find(self, places: Iterable[Place]) -> None:
-        """Asks about those of some places that are not known, all at once."""
+        """Ask about those of some places that are not known, all at once."""
         asked: dict[bytes, list[Life]] = {}
         for path, rev in places:
             if self._piece(path, rev) is None and not any(has_place(life, rev) for life in asked.get(path, ())):
@@ -101,7 +101,7 @@ class Traces:
         return next(life for life in self._tree.lives(path, head) if has_place(life, rev))
 
     def _ask(self, places: Sequence[Place]) -> None:
-        """Asks about some places, and through these about older ones of which svnhist can't be asked."""
+        """Ask about some places, and through these about older ones of which svnhist can't be asked."""
         located = self._history.answers(LocationSegments(*place) for place in places)
         asked = {
             Log(*place, (segment.lo, segment.hi)): segments[at:]

@@ -329,7 +329,7 @@ class MergeinfoChanges:
         return copy_source_of(self._copies[rev], path) or (path, rev - 1)
 
     def _add_inherited(self, found: Difference, path: bytes, rev: int) -> None:
-        """Adds what a path gained and lost of what it inherits, where that is not as it was."""
+        """Add what a path gained and lost of what it inherits, where that is not as it was."""
         base = self._base(path, rev)
         if not self._traces.exists(*base):
             return

@@ -52,7 +52,7 @@ class Greatest:
         self._levels: list[list[float]] = [[]]
 
     def put(self, at: int, number: float) -> None:
-        """Puts a number at a place, perhaps after the end."""
+        """Put a number at a place, perhaps after the end."""
         for level in itertools.count():
             numbers = self._levels[level]
             numbers += [float("-inf")] * (at + 1 - len(numbers))
@@ -108,7 +108,7 @@ class Rows:
         self._rows.append(row)
 
     def put(self, row: Row, at: int, lane: int, extent: Extent) -> None:
-        """Puts a lane at the begin of the row at a place."""
+        """Put a lane at the begin of the row at a place."""
         row.lanes.append(lane)
         self._starts.setdefault(row.kind, Greatest()).put(at, extent.start)
 
@@ -212,7 +212,7 @@ class Layout:
         return max(used + GAP, self._ends_of_names[lane])
 
     def _lengthen(self) -> None:
-        """Draws a branch that is still there to the right, where its row has nothing more."""
+        """Draw a branch that is still there to the right, where its row has nothing more."""
         for row in self.rows:
             if row.kind == BRANCH and self._graph.lanes[row.lanes[0]].lives[-1].is_alive:
                 self._ends[row.lanes[0]] = self.right
@@ -233,7 +233,7 @@ class Layout:
         return Extent(start, max(self._ends[lane] + TAIL, self._ends_of_names[lane]))
 
     def _rows(self) -> Iterator[Row]:
-        """Puts each lane into the first row with room for it that is below that of its source."""
+        """Put each lane into the first row with room for it that is below that of its source."""
         rows = Rows()
         row_of: dict[int, Row] = {}
         for number, lane in enumerate(self._graph.lanes):

@@ -48,7 +48,7 @@ LINKS = 40
 
 
 def serve(given: argparse.Namespace) -> None:
-    """Answers questions until nobody has asked for long, or until it is told to stop."""
+    """Answer questions until nobody has asked for long, or until it is told to stop."""
     top = files.cache_folder()
     if given.dump == "-" or top is None:
         raise Failed("only what is kept in a cache can be served, and no pipe", 2)
@@ -65,7 +65,7 @@ def serve(given: argparse.Namespace) -> None:
 
 
 def stop(dump: str, access: Access = Access()) -> None:
-    """Ends the server of a dump, and waits until it has ended."""
+    """End the server of a dump, and waits until it has ended."""
     connection = connection_of(dump, access.words)
     if connection is None:
         raise Failed(f"{dump} is not served", 1)
@@ -150,7 +150,7 @@ class Server:
                 each.close()
 
     def run(self, stop_after: float) -> None:
-        """Takes requests until it is told to stop, or until nothing was asked for so many seconds."""
+        """Take requests until it is told to stop, or until nothing was asked for so many seconds."""
         pending, last = 0, time.monotonic()
         while self._stopping is None:
             left = None if pending else last + stop_after - time.monotonic()
@@ -175,7 +175,7 @@ class Server:
             return None
 
     def _take(self, connection: socket.socket) -> None:
-        """Answers one request. What fails with it is the other end's, which then answers the question itself."""
+        """Answer one request. What fails with it is the other end's, which then answers the question itself."""
         try:
             with connection, contextlib.suppress(Exception):
                 connection.settimeout(PATIENCE)
@@ -284,7 +284,7 @@ def line_from(connection: socket.socket) -> bytes:
 
 @contextlib.contextmanager
 def as_called(request: dict[str, Any]) -> Iterator[None]:
-    """Does something as the caller would: in its folder, and with its time zone and its mask of modes."""
+    """Do something as the caller would: in its folder, and with its time zone and its mask of modes."""
     kept = {name: os.environ.get(name) for name in CARRIED}
     mask = os.umask(request["mask"])
     try:

@@ -59,7 +59,7 @@ def locked(top: int) -> Iterator[None]:
 
 
 def remove_left(top: int, name: str) -> None:
-    """Removes a socket of this user that a server left when it was killed."""
+    """Remove a socket of this user that a server left when it was killed."""
     with locked(top), contextlib.suppress(OSError):
         status = os.stat(name, dir_fd=top, follow_symlinks=False)
         if stat.S_ISSOCK(status.st_mode) and status.st_uid == os.geteuid():

@@ -39,13 +39,13 @@ def is_own(path: str) -> bool:
 
 
 def touch(path: str) -> None:
-    """Notes that a folder was used, where that can be written."""
+    """Note that a folder was used, where that can be written."""
     with contextlib.suppress(OSError):
         os.utime(path)
 
 
 def make(path: str) -> None:
-    """Makes the folder of a source, if it is not there."""
+    """Make the folder of a source, if it is not there."""
     os.makedirs(os.path.dirname(path), mode=0o700, exist_ok=True)
     with contextlib.suppress(FileExistsError):
         os.mkdir(path, 0o700)
@@ -60,7 +60,7 @@ def folders(top: str) -> Iterator[os.DirEntry[str]]:
 
 
 def make_room(kept: str) -> None:
-    """Takes out of the cache what was not used for long, what a run that was killed left, what another version made,
+    """Take out of the cache what was not used for long, what a run that was killed left, what another version made,
     and, but for the folder that is named, what was not used for longest until the rest fits."""
     top = os.path.dirname(kept)
     now, found = time.time(), []
@@ -82,7 +82,7 @@ def make_room(kept: str) -> None:
 
 
 def remove_unless_locked(path: str) -> None:
-    """Takes a folder out of the cache, unless another run changes it just now."""
+    """Take a folder out of the cache, unless another run changes it just now."""
     with contextlib.suppress(OSError), open(os.path.join(path, LOCK), "ab", opener=opener) as file:
         fcntl.flock(file, fcntl.LOCK_EX | fcntl.LOCK_NB)
         remove(path)

@@ -99,7 +99,7 @@ class Dump(Source):
         return self._copied(file, kept, progress, Copy(), 0)
 
     def _copied(self, file: IO[bytes], kept: Kept, progress: Progress, known: Copy, begin: int) -> Index:
-        """Copies the file from an offset on."""
+        """Copy the file from an offset on."""
         before = self.state() if self.is_regular else None
         size = before.size if before is not None else None
         stripper = Stripper(Window(self.given, begin), file.write, places=True, people=True, known=known)

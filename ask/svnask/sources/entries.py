@@ -100,7 +100,7 @@ class Entry:
             return False
 
     def clear(self, generation: int = 0) -> None:
-        """Removes all files of copies but those with a number in their names, which may be none."""
+        """Remove all files of copies but those with a number in their names, which may be none."""
         for name in os.listdir(self.folder):
             front, _, number = name.partition(".")
             if front in ("dump", "later", INDEX) and number and number != str(generation):

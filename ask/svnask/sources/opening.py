@@ -78,7 +78,7 @@ def with_properties(source: Source, progress: Progress) -> None:
 
 
 def rewritten(kept: Store, sections: Iterable[tuple[int, bytes]], file: IO[bytes]) -> Index:
-    """Writes a copy with other properties of revisions. Those that are not given stay."""
+    """Write a copy with other properties of revisions. Those that are not given stay."""
     given = iter(sections)
     following = next(given, None)
     copy = Copy()

@@ -139,7 +139,7 @@ class SubversionSource(Source):
         return index_of_copy(copy, copy.read, kept)
 
     def _fetched(self, file: IO[bytes], copy: Copy, progress: Progress) -> Error | None:
-        """Copies the revisions that come after those of a copy. Why not all came, if they did not."""
+        """Copy the revisions that come after those of a copy. Why not all came, if they did not."""
         first, last = len(copy.revisions), self.now.youngest
         words = self.dumped(first, last)
         try:

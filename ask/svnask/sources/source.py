@@ -59,7 +59,7 @@ class Source:
         return None
 
     def close(self) -> None:
-        """Lets go of what was opened."""
+        """Let go of what was opened."""
 
     def store(self, progress: Progress, is_cached: bool = True, is_offline: bool = False) -> Store:
         """The copy. It is as the source is now, unless the source is not to be asked."""
@@ -145,7 +145,7 @@ class Source:
         return Store(folder, index, False)
 
     def copied(self, file: IO[bytes], kept: Kept, progress: Progress) -> Index:
-        """Copies all to a file."""
+        """Copy all to a file."""
         raise NotImplementedError
 
 

@@ -97,7 +97,7 @@ def drawable_of(history: OpenHistory, given: Namespace) -> graph.Drawable:
 
 
 def write(name: str, pieces: Iterable[bytes]) -> None:
-    """Writes a file, whole or not at all, but for a device or a pipe."""
+    """Write a file, whole or not at all, but for a device or a pipe."""
     final = os.path.realpath(name)
     try:
         if os.path.isfile(final) or not os.path.exists(final):
@@ -110,7 +110,7 @@ def write(name: str, pieces: Iterable[bytes]) -> None:
 
 
 def replace(final: str, pieces: Iterable[bytes]) -> None:
-    """Writes a file beside another one, by a name that nobody knows before, and puts it in the place of that."""
+    """Write a file beside another one, by a name that nobody knows before, and puts it in the place of that."""
     descriptor, beside = tempfile.mkstemp(prefix=".svnask-", dir=os.path.dirname(final))
     try:
         with open(descriptor, "wb") as file:
@@ -125,7 +125,7 @@ def replace(final: str, pieces: Iterable[bytes]) -> None:
 
 
 def keep_owner(descriptor: int, name: str) -> None:
-    """Gives a file the owner of another one, where there is that, and where this user may."""
+    """Give a file the owner of another one, where there is that, and where this user may."""
     with contextlib.suppress(OSError):
         status = os.stat(name)
         os.fchown(descriptor, status.st_uid, status.st_gid)

@@ -45,7 +45,7 @@ class MergeinfoVerb(Verb):
         parser.add_argument("--incremental", action="store_true", help="a log without the line at its end")
 
     def judge(self, given: Namespace) -> None:
-        """Refuses options without the one that they belong to."""
+        """Refuse options without the one that they belong to."""
         for name, option in OF_LOG:
             if getattr(given, name) and not given.log:
                 raise Denied("E205000", f"{option} option valid only with --log option")
