@@ -80,7 +80,7 @@ def machine() -> dict[str, Any]:
 
 
 def measured(part: Part, setup: Setup) -> list[Item]:
-    """Run a part in a folder of its own, and prints what it measures."""
+    """Run a part in a folder of its own, and print what it measures."""
     print(f"## {part.name}\n\nThe best of {setup.times} measurements.\n", flush=True)
     items = []
     with tempfile.TemporaryDirectory(dir=setup.folder) as folder:
@@ -94,7 +94,7 @@ def measured(part: Part, setup: Setup) -> list[Item]:
 
 
 def measure_all(parts: Iterable[Part], setup: Setup, file: Path | None = None) -> int:
-    """Run parts, and writes what was measured to a file after each. Returns the exit status, 1 for a missed limit."""
+    """Run parts, and write what was measured to a file after each. Returns the exit status, 1 for a missed limit."""
     version = (ROOT / "ask" / "svnask" / "VERSION").read_text(encoding="utf-8").strip()
     given = {"program": str(setup.program), "version": version, "is_quick": setup.is_quick, "times": setup.times}
     report: dict[str, Any] = {"date": datetime.date.today().isoformat(), "machine": machine(), **given, "parts": []}

@@ -37,7 +37,7 @@ class Dialogue:
         self.open = {child.stdout: self.output, child.stderr: self.errors}
 
     def step(self, until: float, what: str, writing: Sequence[IO[bytes]] = ()) -> bool:
-        """Wait until something can be read, which is done, or written, and returns whether something can be."""
+        """Wait until something can be read, which is done, or written, and return whether something can be."""
         readable, writable, _ = select.select(list(self.open), writing, [], max(0.0, until - time.monotonic()))
         if not readable and not writable:
             raise TimeoutError(what)

@@ -62,7 +62,7 @@ def text_of(outcome: Outcome) -> bytes:
 
 
 def keep(folder: Path, seed: int, files: Mapping[str, bytes]) -> dict[str, Path]:
-    """Write the files of a seed, and returns their paths by their names."""
+    """Write the files of a seed, and return their paths by their names."""
     paths = {name: folder / f"{seed}.{name}" for name in files}
     for name, text in files.items():
         paths[name].write_bytes(text)
@@ -115,7 +115,7 @@ def arguments(comparison: Comparison, program: Path) -> argparse.Namespace:
 
 
 def main(comparison: Comparison, program: Path) -> int:
-    """Compare as the arguments say, and returns the exit status."""
+    """Compare as the arguments say, and return the exit status."""
     given = arguments(comparison, program)
     folder = Path(given.keep or tempfile.mkdtemp(prefix="svnhist-fuzz-"))
     folder.mkdir(parents=True, exist_ok=True)

@@ -377,7 +377,7 @@ class LaterCalls(LauncherTest):
         return process
 
     def build_both(self) -> list[str]:
-        """Build svnhist-live, too, and gives the crates that it alone needs."""
+        """Build svnhist-live, too, and give the crates that it alone needs."""
         self.works("svnhist-live is built", self.live, ".*\n(.*\n)*")
         self.tree.set_working_toolchain()
         return sorted(set(self.live.needed) - set(self.svnhist.needed))

@@ -39,7 +39,7 @@ class Damage(base.Case):
         return dump
 
     def check_flips(self, count: int) -> None:
-        """Flip bits in each file of a copy, and asks again."""
+        """Flip bits in each file of a copy, and ask again."""
         dump = self.grown()
         wanted = {words: base.called(dump, *words) for words in QUESTIONS}
         (folder,) = (self.cache / "svnhist").iterdir()

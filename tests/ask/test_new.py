@@ -102,7 +102,7 @@ def target(place: plain.Place) -> Target:
 
 class New(base.Case):
     def check(self, name: str, dump: bytes) -> tuple[int, int]:
-        """Compare all pairs of some paths, and returns how many were compared and how many gained something."""
+        """Compare all pairs of some paths, and return how many were compared and how many gained something."""
         history, known = self.history(self.made(name, dump)), Plain(dump)
         head = len(known.records) - 1
         tops = sorted(

@@ -48,7 +48,7 @@ class OpenEngine(base.Case):
         self.assertEqual([each.pid for each in self.started if each.returncode is None], [])
 
     def kill(self, number: int = signal.SIGKILL) -> None:
-        """Kill the last program that was started, and waits until that is so."""
+        """Kill the last program that was started, and wait until that is so."""
         os.kill(self.started[-1].pid, number)
         os.waitid(os.P_PID, self.started[-1].pid, os.WEXITED | os.WNOWAIT)
 

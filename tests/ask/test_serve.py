@@ -63,7 +63,7 @@ class Serve(base.Case):
         return server
 
     def end(self, server: subprocess.Popen[bytes]) -> None:
-        """End a server, if it has not ended, and looks for what it left."""
+        """End a server, if it has not ended, and look for what it left."""
         server.terminate()
         _, said = server.communicate(timeout=60)
         self.assertEqual((said, self.sockets()), (b"", []))

@@ -36,7 +36,7 @@ class Window:
         return self._is_regular and os.fstat(self._file.fileno()).st_size < self._file.tell()
 
     def want(self, at: int, count: int) -> int:
-        """See to it that the window has `count` bytes from `at` on, if the dump has them, and gives the new place of
+        """See to it that the window has `count` bytes from `at` on, if the dump has them, and give the new place of
         `at`. What is before it may be gone from the window."""
         return at if len(self.data) - at >= count else self._fill(at, count)
 

@@ -141,7 +141,7 @@ class OpenHistory:
         self.close()
 
     def close(self) -> None:
-        """End the program that is asked, and removes what was read, unless it is in the cache."""
+        """End the program that is asked, and remove what was read, unless it is in the cache."""
         self.rest()
         self._store.close()
         if self._file is not None:

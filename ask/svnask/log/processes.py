@@ -90,7 +90,7 @@ def signals_blocked() -> Iterator[Iterable[int]]:
 
 
 def give(pieces: Iterable[bytes], write_end: int, blocked: Iterable[int], others: Iterable[IO[bytes]]) -> NoReturn:
-    """Write pieces into a pipe and ends this process, whatever happens. It must not go on as the one of which it is a
+    """Write pieces into a pipe and end this process, whatever happens. It must not go on as the one of which it is a
     copy, nor undo what that one did."""
     try:
         for stream in others:

@@ -102,7 +102,7 @@ def reply_of(connection: socket.socket) -> ServerReply | None:
 
 
 def print_reply(reply: ServerReply) -> int:
-    """Print what a server said, and gives the status."""
+    """Print what a server said, and give the status."""
     # Where nobody reads it, this ends silently, as other filters do.
     signal.signal(signal.SIGPIPE, signal.SIG_DFL)
     try:

@@ -65,7 +65,7 @@ def serve(given: argparse.Namespace) -> None:
 
 
 def stop(dump: str, access: Access = Access()) -> None:
-    """End the server of a dump, and waits until it has ended."""
+    """End the server of a dump, and wait until it has ended."""
     connection = connection_of(dump, access.words)
     if connection is None:
         raise Failed(f"{dump} is not served", 1)

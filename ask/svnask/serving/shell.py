@@ -19,7 +19,7 @@ ABOUT = "type a question, as after 'svnask SOURCE': log trunk; or VERB --help, o
 
 
 def run_shell(given: argparse.Namespace) -> int:
-    """Answer each line, and gives the status of the last one that had no answer."""
+    """Answer each line, and give the status of the last one that had no answer."""
     if given.dump == "-":
         raise Usage("the shell reads its questions from the standard input: name a file or a repository")
     if sys.stdin is None:

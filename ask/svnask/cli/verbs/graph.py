@@ -110,7 +110,7 @@ def write(name: str, pieces: Iterable[bytes]) -> None:
 
 
 def replace(final: str, pieces: Iterable[bytes]) -> None:
-    """Write a file beside another one, by a name that nobody knows before, and puts it in the place of that."""
+    """Write a file beside another one, by a name that nobody knows before, and put it in the place of that."""
     descriptor, beside = tempfile.mkstemp(prefix=".svnask-", dir=os.path.dirname(final))
     try:
         with open(descriptor, "wb") as file:
