@@ -1,23 +1,28 @@
-"""`log` and `show`."""
+"""`log`."""
 from __future__ import annotations
 
 import re
 from argparse import SUPPRESS, Action, ArgumentParser, Namespace
 from collections.abc import Iterator
-from typing import Any
+from typing import TYPE_CHECKING, Any
 
 from svnask.asking.verb import Object, Verb, object_of_revision
 from svnask.digits import number
 from svnask.errors import Denied, Failed, Usage
 from svnask.history.open_history import OpenHistory
 from svnask.history.targets import paths_below, ranges_of, target_of
+from svnask.lazy import Lazy
 from svnask.log import selection as log
 from svnask.log.forms import AUTHOR, DATE, SHOWN, Form, Wanted, log_entries, printed_log
 from svnask.log.plain import PlainForm
 from svnask.log.search import Glob, Group, folded
 from svnask.log.xml import XmlForm
-from svnask.merged_log import selection as merged_log
 from svnask.texts import encoded
+
+if TYPE_CHECKING:
+    from svnask.merged_log import selection as merged_log
+else:
+    merged_log = Lazy("svnask.merged_log.selection")
 
 SEARCH, SEARCH_AND = "--search", "--search-and"
 OF_RANGES = "the revisions from LO to HI, in this order; may be repeated"
