@@ -24,7 +24,7 @@ from svnask.cli import command, completion
 from svnask.cli.completion import BASH, lines_for
 from svnask.cli.verbs.segments import SegmentsVerb
 from svnask.copy import branch_names as kept_branches
-from svnask.history.lives import lives_in
+from svnask.history.lives import lives_at
 from svnask.serving import client
 from svnask.sources import cache
 from svnask.sources.entries import Entry, read_front
@@ -264,7 +264,9 @@ class Branches(base.UtcTest):
             with History.open(dump) as history:
                 if not history.is_whole:
                     continue
-                lives = lives_in(history.tree, [b"/trunk", b"/branches/*", b"/tags/*"], history.head)
+                patterns = (b"/trunk", b"/branches/*", b"/tags/*")
+                paths = [path for pattern in patterns for path in history.tree.matching(pattern)]
+                lives = lives_at(history.tree, paths, history.head)
             wanted = {life.path for life in lives if life.is_alive}
             found = self.found(dump)
             self.compare(name, set(), wanted - set(found))

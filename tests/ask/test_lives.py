@@ -7,7 +7,7 @@ from pathlib import Path
 
 from dev.dumps import added, copied, deleted, dump_of
 from svnask.engine.queries import Locate
-from svnask.history.lives import Tree, lives_in
+from svnask.history.lives import Tree, lives_at
 from tests.ask import base
 
 
@@ -27,7 +27,7 @@ class Lives(base.Case):
 
     def test_lives_of_a_repository(self) -> None:
         history = self.history(base.dump_of("again"))
-        lives = lives_in(history.tree, [b"/b/*"], 17)
+        lives = lives_at(history.tree, history.tree.matching(b"/b/*"), 17)
         found = [(life.path, life.first, life.last, life.source) for life in lives]
         self.assertEqual(
             found,

@@ -344,11 +344,6 @@ def is_plain(part: bytes) -> bool:
     return not any(letter in part for letter in b"*?[")
 
 
-def lives_in(tree: Tree, patterns: Sequence[bytes], head: int) -> list[Life]:
-    """The lives of all paths that match a pattern, in the order of paths and revisions."""
-    return lives_at(tree, {path for pattern in patterns for path in tree.matching(pattern)}, head)
-
-
 def lives_at(tree: Tree, paths: Iterable[bytes], head: int) -> list[Life]:
     """The lives of some paths, in the order of paths and revisions."""
     return [life for path in sorted(paths, key=components) for life in tree.lives(path, head)]
