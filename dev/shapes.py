@@ -1,6 +1,8 @@
 """Dumps of histories of odd shapes, in which something grows as the square that should not."""
 from __future__ import annotations
 
+from dataclasses import replace
+
 from dev.dumps import FILE, Dump, Node, Revision, added, changed, copied, deleted, dump_of, mergeinfo, section
 
 FOLDERS = [added(b"trunk"), added(b"branches")]
@@ -59,9 +61,14 @@ def tags(count: int) -> bytes:
     return dump_of([added(b"trunk"), added(b"tags"), A_FILE], *made, *later)
 
 
+def written(number: int) -> Node:
+    """Return a change of the file. It has the kind, which Subversion dumps with all but deletions."""
+    return replace(changed(A_FILE.path, text=b"%d" % number), kind=FILE)
+
+
 def one_file(count: int) -> bytes:
     """Many revisions of one file."""
-    return dump_of([*FOLDERS, A_FILE], *([changed(A_FILE.path, text=b"%d" % number)] for number in range(count)))
+    return dump_of([*FOLDERS, A_FILE], *([written(number)] for number in range(count)))
 
 
 def merges(count: int) -> bytes:
@@ -111,4 +118,4 @@ def properties(count: int) -> bytes:
     """One revision that changes properties of many files."""
     files = [b"trunk/f%d" % number for number in range(count)]
     made = [added(file, FILE) for file in files]
-    return dump_of(FOLDERS, made, [changed(file, section({b"x": b"1"})) for file in files])
+    return dump_of(FOLDERS, made, [replace(changed(file, section({b"x": b"1"})), kind=FILE) for file in files])

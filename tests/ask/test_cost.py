@@ -8,6 +8,7 @@ from unittest import mock
 
 from dev.dumps import added, dump_of
 from dev.shapes import chain, copies, deletions, directories, long_name, long_value, renames
+from svnask.branches import questions
 from svnask.engine import talk as engine
 from svnask.history.lives import Life, moves_of
 from tests.ask import base
@@ -48,7 +49,8 @@ class Runs(base.Case):
 
     def test_the_last_change_of_a_long_life_is_looked_for_in_its_end_first(self) -> None:
         dump = self.made("dump", dump_of([added(b"trunk"), added(b"tags")], *([] for _ in range(2, 200))))
-        with mock.patch.object(engine.Talk, "ask", autospec=True, side_effect=engine.Talk.ask) as ask:
+        window = mock.patch.object(questions, "FIRST_WINDOW", 64)
+        with window, mock.patch.object(engine.Talk, "ask", autospec=True, side_effect=engine.Talk.ask) as ask:
             self.assertIn(b"changed in r1\n", base.called(dump, "branches").output)
         self.assertEqual(ask.call_count, 2)
 

@@ -21,7 +21,7 @@ from svnask.texts import decoded
 
 # How many revisions are looked through at first for the last change of a life, and how many times more at each further
 # look.
-FIRST_WINDOW, WINDOW_GROWS = 64, 256
+FIRST_WINDOW, WINDOW_GROWS = 4096, 256
 # How a branch or a tag has a revision.
 HISTORY, MERGED, IN_PART, RECORDED = "history", "merged", "merged in part", "recorded"
 # What happens to a tag.

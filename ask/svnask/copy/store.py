@@ -200,6 +200,7 @@ class Store:
         self.index = index
         # What is asked of a revision is asked together.
         self._head = functools.lru_cache(1)(self._read_head)
+        self.blocks_of = functools.lru_cache(1)(self._read_blocks)
         # Whether another run made it.
         self.is_loaded = is_loaded
         self.is_kept = is_kept
@@ -311,9 +312,20 @@ class Store:
         self._check(rev)
         return self._blocks(self.index.revisions[rev], self._end(rev))
 
-    def blocks_of(self, rev: int) -> bytes:
+    def _read_blocks(self, rev: int) -> bytes:
         """The blocks of the records of a revision."""
         return self.between(self._begin(rev), self._end(rev))
+
+    def revisions_with(self, pattern: re.Pattern[bytes], first: int, last: int) -> Iterator[int]:
+        """Yield the revisions of a range in whose bytes a pattern is found, rising. A message may have it, too."""
+        newest = -1
+        for part, begin, end in self._pieces(self.index.revisions[first], self._end(last)):
+            before = self.index.kept.base if part is self.later else 0
+            for found in pattern.finditer(part, begin, end):
+                rev = bisect.bisect_right(self.index.revisions, found.start() + before) - 1
+                if rev > newest:
+                    newest = rev
+                    yield rev
 
     def revision(self, rev: int) -> Revision:
         return revision_of_block(self._head(rev))

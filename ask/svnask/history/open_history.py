@@ -466,12 +466,14 @@ class OpenHistory:
         [('D', b'/branches/one', 'dir')]
         """
         lacking: list[tuple[int, int, Place]] = []
-        for rev in revs:
-            if WITHOUT_KIND.search(self._store.blocks_of(rev)):
-                made = [record for record in self.records(rev, rev) if record.action in ("add", "replace")]
-                for at, change in enumerate(self.changes(rev)):
-                    if change.kind is None:
-                        lacking.append((rev, at, place_of_change(change, rev, made)))
+        asked = set(revs)
+        for rev in self._store.revisions_with(WITHOUT_KIND, min(asked), max(asked)) if asked else ():
+            if rev in asked and WITHOUT_KIND.search(self._store.blocks_of(rev)):
+                found = [(at, change) for at, change in enumerate(self.changes(rev)) if change.kind is None]
+                has_deleted = any(change.letter == "D" for _, change in found)
+                records = self.records(rev, rev) if has_deleted else ()
+                made = [record for record in records if record.action in ("add", "replace")]
+                lacking += [(rev, at, place_of_change(change, rev, made)) for at, change in found]
         if lacking:
             kinds = self.kinds(place for *_, place in lacking)
             for rev, at, place in lacking:

@@ -67,6 +67,8 @@ def up_to_nul(text: bytes) -> bytes:
 def as_wanted(revision: Revision, names: frozenset[bytes] | None) -> Revision:
     """A revision with the properties of these names alone. Author, date and message end at a NUL."""
     _, author, date, message, _, kept = revision
+    if not kept:
+        return revision
     if names is SHOWN and len(kept) == 3 and author and date and message:
         # So are most revisions.
         if b"\0" not in message and b"\0" not in author and b"\0" not in date:

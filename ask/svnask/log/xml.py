@@ -107,12 +107,9 @@ class XmlForm(Form):
 
     def entry(self, entry: LogEntry) -> bytes:
         (number, author, date, message, _, properties), changes, via, is_reverse, has_merges = entry
-        attributes = [(b"revision", b"%d" % number)]
-        if via:
-            attributes.append((b"reverse-merge", word(is_reverse)))
+        reverse = b'\n   reverse-merge="%s"' % word(is_reverse) if via else b""
         pieces = [
-            opening(b"logentry", attributes),
-            b"\n",
+            b'<logentry\n   revision="%d"%s>\n' % (number, reverse),
             tagged(b"author", author),
             tagged(b"date", date or None),
         ]
