@@ -1,14 +1,14 @@
 """svnask about histories of odd shapes, in a size and in twice that: whether any verb takes time or memory as the square.
 
 Each verb that asks a question is measured, with arguments by the names that its help has for them, so that a new verb is
-measured without being named here. Times are processor seconds with those of svnhist-live, and the best of some runs;
-memory is that of Python alone. What prints or compares as much as the square of the size is left out: `heirs` of a
-chain of copies, and `unmerged` of one, in which each branch has the revisions of all before it.
+measured without being named here. Times are processor seconds with those of svnhist-live, and the best of some runs, of
+more where a limit is missed; memory is that of Python alone. What prints or compares as much as the square of the size
+is left out: `heirs` of a chain of copies, and `unmerged` of one, in which each branch has the revisions of all before it.
 """
 from __future__ import annotations
 
 from argparse import ArgumentParser
-from collections.abc import Iterator
+from collections.abc import Iterator, Mapping, Sequence
 from functools import partial
 from pathlib import Path
 from typing import Callable, NamedTuple
@@ -44,6 +44,8 @@ MORE = (["log", "-v"], ["log", "-g", "trunk"], ["log", "--xml", "-v"])
 AS_THE_SQUARE = {("chain", "heirs"), ("chain", "unmerged"), ("renames", "heirs")}
 # Shorter times are taken for this one, since they vary.
 LEAST = 0.5
+# How often a verb is measured that misses a limit.
+ATTEMPTS = 4
 
 MOST_TIMES = most(2.4, "times the time for twice the size")
 MOST_SECONDS = most(10.0, "processor seconds for twice the size")
@@ -96,6 +98,15 @@ class Found(NamedTuple):
     def times(self) -> float:
         return self.twice.processor / max(self.once.processor, LEAST)
 
+    @property
+    def is_met(self) -> bool:
+        return MOST_TIMES.of(self.times).is_met and MOST_SECONDS.of(self.twice.processor).is_met
+
+    def best(self, other: Found) -> Found:
+        """Return the best of two measurements."""
+        pairs = zip(self[1:], other[1:])
+        return Found(self.verb, *(min(pair, key=lambda taken: taken.processor) for pair in pairs))
+
 
 def measured(setup: Setup, shape: Callable[[int], bytes], size: int) -> Iterator[Found]:
     """Yield the cost of each verb about a shape."""
@@ -110,8 +121,21 @@ def measured(setup: Setup, shape: Callable[[int], bytes], size: int) -> Iterator
     for words in questions(queries):
         if (shape.__name__, words[0]) not in AS_THE_SQUARE:
             runs = {each.dump: partial(each.measured, *words) for each in asked}
-            best = best_in_turns(runs, setup.times, lambda taken: taken.processor)
-            yield Found(" ".join(word for word in words if word != str(queries)), *(best[each.dump] for each in asked))
+            verb = " ".join(word for word in words if word != str(queries))
+            yield found_of(verb, asked, runs, setup.times)
+
+
+def found_of(verb: str, asked: Sequence[Asked], runs: Mapping[Path, Callable[[], Measured]], times: int) -> Found:
+    """Measure a verb, and again where it misses a limit: other work on the machine may have taken the time."""
+    found: Found | None = None
+    for _ in range(ATTEMPTS):
+        best = best_in_turns(runs, times, lambda taken: taken.processor)
+        new = Found(verb, *(best[each.dump] for each in asked))
+        found = new if found is None else found.best(new)
+        if found.is_met:
+            break
+    assert found is not None
+    return found
 
 
 def run(setup: Setup) -> Measurements:

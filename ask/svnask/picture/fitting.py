@@ -6,6 +6,7 @@ another merge go first, and then the lanes with the fewest revisions and merges,
 from __future__ import annotations
 
 from collections import Counter
+from collections.abc import Sequence
 
 from svnask.picture.graph import Drawable, Graph, LeftOut
 from svnask.picture.layout import TOP, Layout
@@ -13,25 +14,32 @@ from svnask.projects import TRUNK
 
 # How many pixels are between curves that go up or down, if they are even.
 APART = 20
+# How many lanes are laid out at most for each pixel of the height, to look how many of them have room.
+LANES_OF_PIXEL = 10
 
 
 def fitted(found: Drawable, height: int) -> Graph:
-    """The graph of all that has room, with what is left out."""
+    """Return the graph of all that has room, with what is left out."""
     whole = found.graph(found.lanes)
-    full = height_of(whole)
-    if full <= height:
+    most = LANES_OF_PIXEL * height
+    full = height_of(whole) if len(found.lanes) <= most else None
+    if full is not None and full <= height:
         return whole
     busiest = by_activity(whole)
-    count = len(busiest)
-    graph = found.graph(found.lanes, has_carried=False)
+    count = min(len(busiest), most)
+    graph = graph_of_some(found, busiest[:count])
     while count > 1 and (needed := height_of(graph)) > height:
         # The curves get fewer and shorter.
         count = max(min(count - 1, int(count * (height / needed) ** 0.5)), 1)
-        chosen = set(busiest[:count])
-        lanes = [lane for number, lane in enumerate(found.lanes) if number in chosen]
-        graph = found.graph(lanes, has_carried=False)
+        graph = graph_of_some(found, busiest[:count])
     carried = sum(merge.is_carried for merge in whole.merges)
     return graph._replace(left=LeftOut(len(whole.lanes) - len(graph.lanes), carried, full))
+
+
+def graph_of_some(found: Drawable, numbers: Sequence[int]) -> Graph:
+    """Return the graph of some lanes, without merges that came with another one."""
+    chosen = set(numbers)
+    return found.graph([lane for number, lane in enumerate(found.lanes) if number in chosen], has_carried=False)
 
 
 def height_of(graph: Graph) -> int:

@@ -83,11 +83,12 @@ class View(NamedTuple):
 
 
 class LeftOut(NamedTuple):
-    """The lanes and merges that a graph leaves out: how many of each, and the height of a picture that has them."""
+    """The lanes and merges that a graph leaves out: how many of each, and the height of a picture that has them, unless
+    there are too many lanes to know."""
 
     lanes: int
     carried: int
-    height: int
+    height: int | None
 
 
 class Graph(NamedTuple):

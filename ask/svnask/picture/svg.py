@@ -302,7 +302,8 @@ def about_left(left: LeftOut | None) -> str:
         *([f"{left.lanes} branches and tags with the fewest revisions and merges"] if left.lanes else []),
         *([f"{left.carried} merges that came with another merge"] if left.carried else []),
     ]
-    return f"left out: {' and '.join(parts)}; --height {left.height} shows them" if parts else ""
+    how = "a greater --height shows more" if left.height is None else f"--height {left.height} shows them"
+    return f"left out: {' and '.join(parts)}; {how}" if parts else ""
 
 
 class Legend(NamedTuple):
