@@ -104,8 +104,11 @@ class Found(NamedTuple):
 
     def best(self, other: Found) -> Found:
         """Return the best of two measurements."""
-        pairs = zip(self[1:], other[1:])
-        return Found(self.verb, *(min(pair, key=lambda taken: taken.processor) for pair in pairs))
+        once, twice = (
+            min(pair, key=lambda taken: taken.processor)
+            for pair in ((self.once, other.once), (self.twice, other.twice))
+        )
+        return Found(self.verb, once, twice)
 
 
 def measured(setup: Setup, shape: Callable[[int], bytes], size: int) -> Iterator[Found]:
