@@ -79,6 +79,8 @@ class Picture:
         self._arrows = arrows_of(graph, max(room / ARROW_ROOM, FEWEST_ARROWS))
         coloured = [number for number, lane in enumerate(graph.lanes) if lane.kind != TRUNK]
         self._left = about_left(graph.left)
+        # The revisions in which each lane is a copy.
+        self._firsts = [{life.first for life in lane.lives if life.source is not None} for lane in graph.lanes]
         first = self._layout.height - 22 + LEGEND_ROW * bool(self._left)
         self._legend = legend_of(self._kinds(), self._layout.width, first)
         self._colours = {lane: COLOURS[place % len(COLOURS)] for place, lane in enumerate(coloured)}
@@ -201,7 +203,7 @@ class Picture:
     def _dot(self, dot: Dot) -> str:
         lane = self._graph.lanes[dot.lane]
         place = LanePlace(self._layout.x(dot.column), self._layout.y(dot.lane))
-        is_first = any(life.first in dot.revisions and life.source is not None for life in lane.lives)
+        is_first = not self._firsts[dot.lane].isdisjoint(dot.revisions)
         colour = self._colour(dot.lane)
         circle = '<circle class="dot" cx="%s" cy="%s" r="%s" fill="%s" stroke="%s"/>' % (
             decimal(place.x),

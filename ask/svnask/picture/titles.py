@@ -49,8 +49,10 @@ def about_end(history: OpenHistory, life: Life) -> str:
 
 
 def about_lane(lane: Lane) -> str:
-    """The names of a lane, and the revisions in which it has them."""
-    return "\n".join(f"{name_of_life(life)} {span_of(life)}" for life in lane.lives)
+    """Return the names of a lane, of many the newest ones, and the revisions in which it has them."""
+    more = len(lane.lives) - MOST_LISTED
+    names = [f"{name_of_life(life)} {span_of(life)}" for life in lane.lives[-MOST_LISTED:]]
+    return "\n".join([f"{more} names before"] * (more > 0) + names)
 
 
 def span_of(life: Life) -> str:
@@ -106,5 +108,10 @@ class Titles:
 
 
 def name_at(lane: Lane, rev: int) -> str:
-    """The name of a lane in a revision."""
-    return name_of_life(next((life for life in lane.lives if life.first <= rev <= life.last), lane.lives[-1]))
+    """Return the name of a lane in a revision."""
+    low, high = 0, len(lane.lives)
+    while low < high:
+        middle = (low + high) // 2
+        low, high = (middle + 1, high) if lane.lives[middle].first <= rev else (low, middle)
+    found = lane.lives[max(low - 1, 0)]
+    return name_of_life(found if found.has(rev) else lane.lives[-1])
