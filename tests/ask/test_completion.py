@@ -62,7 +62,7 @@ class CompletionTest(base.UtcTest):
             cache.make(entry.folder)
             with entry.first_file() as (file, kept):
                 store.write(file)
-            entry.commit(store.index._replace(kept=kept._replace(base=store.index.length))).close()
+            entry.commit(store.index.clone().named(kept)).close()
 
     def lines(self, *words: str, shell: str = BASH) -> list[str]:
         breaks = BREAKS if shell == BASH else ""

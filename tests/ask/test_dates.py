@@ -7,7 +7,7 @@ from typing import Callable
 from unittest import mock
 
 from svnask.errors import Denied
-from svnask.history import dates
+from svnask.history import dates, given_dates
 from tests.ask.base import UtcTest
 
 # Zones by their rules, which are known without a database.
@@ -65,7 +65,7 @@ class Dates(UtcTest):
         )
         # fmt: on
         for text in rows:
-            self.assertEqual(dates.given(text), (1767312000, 0), text)
+            self.assertEqual(given_dates.given(text), (1767312000, 0), text)
 
     def test_dates_in_words_are_read(self) -> None:
         now = 1767312000.5
@@ -74,10 +74,10 @@ class Dates(UtcTest):
             ("+2  mins  ago", 120), ("1 month ago", 30 * 86400), ("twelve years ago", 12 * 365 * 86400),
         )  # fmt: skip
         for text, seconds in rows:
-            self.assertEqual(dates.given(text, lambda: now), (1767312000 - seconds, 500000), text)
+            self.assertEqual(given_dates.given(text, lambda: now), (1767312000 - seconds, 500000), text)
         for text in ("3 days", "3 seconds ago", "-1 days ago", "many days ago", "99 years ago", "1 day ago."):
             with self.assertRaises(Denied, msg=text):
-                dates.given(text, lambda: now)
+                given_dates.given(text, lambda: now)
 
     def test_other_dates_are_refused(self) -> None:
         # fmt: off
@@ -91,14 +91,14 @@ class Dates(UtcTest):
         # fmt: on
         for text in rows:
             with self.assertRaises(Denied, msg=text):
-                dates.given(text)
+                given_dates.given(text)
 
     def test_a_date_names_the_last_revision_before_it(self) -> None:
         stored = [b"2026-01-0%dT00:00:00.0Z" % day for day in range(1, 10)]
         for day in range(1, 10):
-            when = dates.given("2026-01-0%dT12:00Z" % day)
+            when = given_dates.given("2026-01-0%dT12:00Z" % day)
             self.assertEqual(dates.revision_at(when, 8, stored.__getitem__), day - 1)
-        self.assertEqual(dates.revision_at(dates.given("2025-01-01"), 8, stored.__getitem__), 0)
+        self.assertEqual(dates.revision_at(given_dates.given("2025-01-01"), 8, stored.__getitem__), 0)
 
     def test_of_two_moments_with_one_local_time_that_of_the_season_is_taken(self) -> None:
         """As `svn` 1.14 takes them, today in each of these zones."""
@@ -113,4 +113,4 @@ class Dates(UtcTest):
         ):
             with mock.patch.dict(os.environ, TZ=RULES[zone]):
                 time.tzset()
-                self.assertEqual(dates.given(text, clock_at(now)), dates.given(wanted), (zone, text))
+                self.assertEqual(given_dates.given(text, clock_at(now)), given_dates.given(wanted), (zone, text))

@@ -101,7 +101,7 @@ class Reading(base.Case):
         dump = base.dump_of("branches")
         first = self.history(dump)
         again = self.history(dump)
-        self.assertEqual(first.index, again.index)
+        self.assertEqual(first.index.text(), again.index.text())
         self.assertEqual(first.log(b"trunk", 13).revisions, again.log(b"trunk", 13).revisions)
         self.assertEqual((len(self.folders()), (self.cache / "svnhist").stat().st_mode & 0o777), (1, 0o700))
 

@@ -47,8 +47,14 @@ These options are passed on to svn:
 class Parser(argparse.ArgumentParser):
     """A parser that tells of wrong arguments in one line, and takes no part of the name of an option for it."""
 
-    def __init__(self, **settings: Any) -> None:
-        super().__init__(allow_abbrev=False, **settings)
+    def __init__(self, formatter: type[argparse.HelpFormatter] = argparse.HelpFormatter, **settings: Any) -> None:
+        # Each argument is tried with a formatter. One that is told the width need not import what finds it.
+        super().__init__(allow_abbrev=False, formatter_class=functools.partial(formatter, width=80), **settings)
+        self._formatter = formatter
+
+    def format_help(self) -> str:
+        self.formatter_class = self._formatter
+        return super().format_help()
 
     @property
     def actions(self) -> list[argparse.Action]:
@@ -78,9 +84,7 @@ def about_verb(word: str) -> str:
 @functools.lru_cache(maxsize=None)
 def parser(asked: str | None = None) -> Parser:
     """The parser of the command line, with the verb that is asked and its arguments, or with all verbs by name alone."""
-    made = Parser(
-        prog="svnask", description=ABOUT, epilog=EXAMPLES, formatter_class=argparse.RawDescriptionHelpFormatter
-    )
+    made = Parser(argparse.RawDescriptionHelpFormatter, prog="svnask", description=ABOUT, epilog=EXAMPLES)
     made.add_argument(
         "dump", metavar="SOURCE", help="a dump, - for one from the standard input, the folder of a repository, or a URL"
     )
@@ -91,7 +95,7 @@ def parser(asked: str | None = None) -> Parser:
         "--below", metavar="PATH", default="", help="have targets and patterns begin at a path of the source"
     )
     made.add_argument("-V", "--version", action="version", version="svnask " + __version__)
-    verbs = made.add_subparsers(dest="verb", metavar="VERB", required=True, parser_class=Parser)
+    verbs = made.add_subparsers(dest="verb", metavar="VERB", required=True, parser_class=Parser, prog="svnask SOURCE")
 
     for name in HELP if asked is None else [asked]:
         below = verbs.add_parser(name, help=HELP[name], description=HELP[name])

@@ -5,18 +5,23 @@ import argparse
 import os
 import sys
 from collections.abc import Iterator
-from typing import Callable, NamedTuple
+from typing import TYPE_CHECKING, Callable, NamedTuple
 
-from svnask.asking.refusals import about_record, explained
 from svnask.asking.verb import object_line
 from svnask.asking.verbs import verb_named
 from svnask.errors import Damaged, Denied, Error, Failed, Refused, Unsound
 from svnask.history.open_history import OpenHistory
 from svnask.history.targets import path_in, path_of
+from svnask.lazy import Lazy
 from svnask.sources.access import IS_URL
 from svnask.sources.opening import source_of
 from svnask.sources.source import Source
 from svnask.texts import say
+
+if TYPE_CHECKING:
+    from svnask.asking import refusals
+else:
+    refusals = Lazy("svnask.asking.refusals")
 
 # The refusals that come from records which lack others.
 OF_HIDDEN = (16, 18, 19)
@@ -102,9 +107,9 @@ def explained_of(error: Refused | Damaged, history: OpenHistory, dump: str) -> F
 
 def advice(refused: Refused, history: OpenHistory, dump: str) -> list[str]:
     if refused.unit == "record":
-        found = [about_record(each) for each in history.records() if each.number == refused.place]
+        found = [refusals.about_record(each) for each in history.records() if each.number == refused.place]
         return [*found, HIDDEN] if history.source.is_url and refused.number in OF_HIDDEN else found
-    return explained(refused, dump, history.front())
+    return refusals.explained(refused, dump, history.front())
 
 
 class Stopped(BaseException):

@@ -1,21 +1,27 @@
 """A verb of the command, and what several have in common."""
 from __future__ import annotations
 
-import json
 import re
 import sys
 from argparse import ArgumentParser, ArgumentTypeError, Namespace
 from collections.abc import Iterable, Iterator
-from typing import Any
+from typing import TYPE_CHECKING, Any
 
-from svnask.copy.changes import Change
-from svnask.copy.store import Record
 from svnask.digits import number
-from svnask.history.lives import Life
 from svnask.history.open_history import OpenHistory
 from svnask.history.targets import pattern_of
-from svnask.paths import Place
+from svnask.lazy import Lazy
 from svnask.texts import decoded
+
+if TYPE_CHECKING:
+    import json
+
+    from svnask.copy.changes import Change
+    from svnask.copy.store import Record
+    from svnask.history.lives import Life
+    from svnask.paths import Place
+else:
+    json = Lazy("json")
 
 Object = dict[str, Any]
 

@@ -25,7 +25,7 @@ from svnask.asking.parser import parser, parser_of_verb
 from svnask.asking.verbs import HELP
 from svnask.asking.words import OF_ALL, OF_SVN, is_option, joined_options
 from svnask.copy.branch_names import kept_branches
-from svnask.copy.store import Front
+from svnask.copy.index import Front
 from svnask.files import cache_folder
 from svnask.history.targets import path_in, path_of
 from svnask.paths import split_peg

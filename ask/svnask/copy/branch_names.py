@@ -14,7 +14,7 @@ from collections.abc import Iterable, Iterator
 from typing import NamedTuple
 
 from svnask import files
-from svnask.copy.store import Front
+from svnask.copy.index import Front
 from svnask.paths import clean, joined, rest_below, tops_of
 from svnask.projects import TRUNK, is_in_named, is_named, kind_of
 

@@ -5,8 +5,8 @@ import re
 from collections.abc import Iterable
 from typing import NamedTuple
 
+from svnask.copy.sections import MERGEINFO
 from svnask.copy.store import Node, Record
-from svnask.copy.strip import MERGEINFO
 from svnask.digits import number
 from svnask.paths import NUL_FOR_SLASH, Place, clean, is_at_or_below, joined, rest_below, tops_of
 

@@ -12,7 +12,8 @@ from itertools import chain
 from typing import IO, TYPE_CHECKING, Any, BinaryIO, NamedTuple, Union
 
 from svnask import digits, files
-from svnask.copy.strip import LAST_LINE, MERGEINFO, ONE_MERGEINFO, Malformed, body_of, entries_of, is_one_mergeinfo
+from svnask.copy.index import Index
+from svnask.copy.sections import LAST_LINE, Setting, body_of, properties_of, setting_of
 from svnask.errors import Damaged
 from svnask.lazy import Lazy
 from svnask.paths import clean
@@ -26,7 +27,6 @@ else:
 Bytes = Union[mmap.mmap, bytes]
 # Of a record the path, the kind, the action, the revision and the path of its source, and what it gave and changed.
 Node = tuple[Any, ...]
-VERSION = b"svnask 5"
 FIRST_LINE = b"SVN-fs-dump-format-version: 2\n\n"
 # The parts of a block of the copy. `Stripper` writes the headers in this order.
 PLACE = rb"Node-path: (?P<path>[^\n]*)\n(?:Node-kind: (?P<kind>[^\n]*)\n)?"
@@ -56,14 +56,6 @@ REVISION = re.compile(
 MARK = re.compile(rb"\n*(?:[^\n]+\n)*?At: ([0-9]+)\n")
 # The end of a property section after a value.
 END = b"\n" + LAST_LINE
-# A property of a revision, up to its value.
-ENTRY = re.compile(rb"K [0-9]+\n(.*)\nV ([0-9]{1,18})\n")
-
-
-class Setting(NamedTuple):
-    """A change of the mergeinfo of a path: a text, or None where it is taken away."""
-
-    text: bytes | None
 
 
 class Record(NamedTuple):
@@ -92,101 +84,6 @@ class Revision(NamedTuple):
     at: int
     # All that it has, these three too.
     properties: dict[bytes, bytes]
-
-
-class Kept(NamedTuple):
-    """The identity of a copy in the cache: its source, the state of the file, the number in the names of its files, and
-    the length of the first one."""
-
-    kind: bytes = b""
-    # The real path of a file or a folder, or a URL.
-    place: bytes = b""
-    state: bytes = b""
-    generation: int = 0
-    base: int = 0
-
-
-class Index(NamedTuple):
-    """The index of a copy: all that is known beside its bytes."""
-
-    format: int
-    uuid: bytes
-    records: int
-    # How many bytes the dump has, and how many the copy.
-    size: int
-    length: int
-    is_whole: bool
-    # The offset in the copy of each revision.
-    revisions: list[int]
-    # The revision and the path of each copy of a path of the revision before to itself.
-    renewals: list[tuple[int, bytes]]
-    # The runs of revisions without a date.
-    undated: list[tuple[int, int]]
-    # The checksum of the bytes before the first revision, and of those of each revision.
-    sums: list[int]
-    kept: Kept = Kept()
-
-    def text(self) -> bytes:
-        kind, place, state, generation, base = self.kept
-        counts = self.format, self.records, self.size, self.length, len(self.revisions), generation, base, len(place)
-        sums, undated = b" ".join(b"%x" % each for each in self.sums), b" ".join(b"%d-%d" % run for run in self.undated)
-        lines = [b"%d %d %d %d %d %d %d %d" % counts, self.uuid, kind, state, sums, undated]
-        lines += [b"%d" % place for place in self.revisions]
-        lines += [b"%d %s" % renewal for renewal in self.renewals]
-        # A place may have newlines.
-        rest = b"\n".join(lines) + b"\n" + place
-        return b"%s %d %08x\n%s" % (VERSION, len(rest), zlib.crc32(rest), rest)
-
-
-# How many lines of an index stand before those of the revisions.
-LINES = 6
-
-
-def index_of(text: bytes) -> Index:
-    """The index in a text, which begins with the version and with the length and a checksum of what follows.
-    `ValueError` or `IndexError` where it is not one."""
-    head, _, rest = text.partition(b"\n")
-    if head != b"%s %d %08x" % (VERSION, len(rest), zlib.crc32(rest)):
-        raise ValueError("another version, or not as it was written")
-    counts, uuid, kind, state, sums, undated, _ = rest.split(b"\n", LINES)
-    version, records, size, length, count, generation, base, named = map(int, counts.split())
-    lines = rest[: len(rest) - named - 1].split(b"\n")
-    pairs = [line.split(b" ", 1) for line in lines[LINES + count :]]
-    runs = [run.split(b"-") for run in undated.split()]
-    return Index(
-        version,
-        uuid,
-        records,
-        size,
-        length,
-        True,
-        list(map(int, lines[LINES : LINES + count])),
-        [(int(rev), path) for rev, path in pairs],
-        [(int(first), int(last)) for first, last in runs],
-        [int(each, 16) for each in sums.split()],
-        Kept(kind, rest[len(rest) - named :], state, generation, base),
-    )
-
-
-class Front(NamedTuple):
-    """The part of an index that is about the copy as a whole."""
-
-    kept: Kept
-    length: int
-
-
-def front_of(file: BinaryIO) -> Front:
-    """The front of an index in a file, read without what the index has for each revision. `ValueError` or `IndexError`
-    where it is not one."""
-    head = file.readline().rstrip(b"\n")
-    begin = file.tell()
-    counts, _, kind, state = (file.readline().rstrip(b"\n") for _ in range(4))
-    end = file.seek(0, os.SEEK_END)
-    if not head.startswith(b"%s %d " % (VERSION, end - begin)):
-        raise ValueError("another version, or not the whole of an index")
-    _, _, _, length, _, generation, base, named = map(int, counts.split())
-    file.seek(max(begin, end - named))
-    return Front(Kept(kind, file.read(), state, generation, base), length)
 
 
 class Store:
@@ -439,18 +336,6 @@ def revision_of_block(found: re.Match[bytes]) -> Revision:
     return Revision(int(rev), get(b"svn:author"), get(b"svn:date"), get(b"svn:log"), int(at), values)
 
 
-def properties_of(section: bytes) -> dict[bytes, bytes]:
-    """The properties of a revision, as far as they have their form, which svnhist does not judge."""
-    values = {}
-    at = 0
-    while found := ENTRY.match(section, at):
-        begin = found.end()
-        end = begin + int(found[2])
-        values[found[1]] = section[begin:end]
-        at = end + 1
-    return values
-
-
 def record_of(found: re.Match[bytes], number: int, rev: int, version: int) -> Record:
     path, kind, action, from_rev, from_path, delta, at, text, properties, _ = found.groups()[-10:]
     return Record(
@@ -465,19 +350,3 @@ def record_of(found: re.Match[bytes], number: int, rev: int, version: int) -> Re
         text is not None,
         properties is not None,
     )
-
-
-def setting_of(section: bytes, is_delta: bool) -> Setting | None:
-    """Return what a property section does to mergeinfo."""
-    if not section:
-        return None
-    if is_one_mergeinfo(section):
-        return Setting(section[section.index(b"\n", len(ONE_MERGEINFO)) + 1 : -len(END)])
-    try:
-        values = [value for name, value in entries_of(section, is_delta) if name == MERGEINFO]
-    except Malformed:
-        # For this svnhist refuses the dump.
-        return None
-    if values:
-        return Setting(values[-1])
-    return None if is_delta else Setting(None)

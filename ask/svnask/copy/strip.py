@@ -7,9 +7,10 @@ ends with the block that is at fault, so that svnhist refuses it there, for its 
 from __future__ import annotations
 
 import re
-import zlib
 from collections.abc import Callable
 
+from svnask.copy.index import Index
+from svnask.copy.sections import LAST_LINE, Malformed, body_of, mergeinfo_alone, number_of
 from svnask.copy.window import Window
 from svnask.digits import number
 from svnask.paths import clean
@@ -19,11 +20,6 @@ Headers = dict[bytes, bytes]
 
 MAGIC = b"SVN-fs-dump-format-version: "
 FORMATS = {MAGIC + b"2\n": 2, MAGIC + b"3\n": 3}
-LAST_LINE = b"PROPS-END\n"
-NO_PROPERTIES = b"Prop-content-length: 10\nContent-length: 10\n\n" + LAST_LINE + b"\n"
-MERGEINFO = b"svn:mergeinfo"
-DATE = b"K 8\nsvn:date\n"
-ONE_MERGEINFO = b"K 13\nsvn:mergeinfo\nV "
 # The headers by which a block is a revision, a record or the identity of the repository; the first one decides.
 KINDS = (b"Revision-number", b"Node-path", b"UUID")
 OF_RECORDS = (
@@ -49,8 +45,8 @@ MODS = {
     (False, True): b"Mods: properties\n",
     (True, True): b"Mods: text properties\n",
 }
-# How many pieces of a copy are written at once. One that is longer is not held back.
-MANY, LONG = 1024, 1 << 16
+# How many pieces of a copy are written at once.
+MANY = 1024
 # The headers of a revision as Subversion writes them, and those of a record that changes a text alone.
 REVISION = re.compile(rb"(Revision-number: .*\n)Prop-content-length: ([0-9]{1,18})\nContent-length: \2\n\n")
 CHANGE = re.compile(
@@ -72,117 +68,6 @@ RECORD = re.compile(
 )
 
 
-class Malformed(Exception):
-    """A block does not have its form, or the dump ends in it."""
-
-
-class Copy:
-    """The facts about a copy beside its bytes."""
-
-    def __init__(self, format: int = 0, uuid: bytes | None = None) -> None:  # pylint: disable=redefined-builtin
-        self.format, self.uuid = format, uuid
-        # How many records there are, and how many of them come before the last revision.
-        self.records, self.records_before = 0, 0
-        # The offset in the copy of each revision.
-        self.revisions: list[int] = []
-        # Whether these are the revisions from 0 on, each once.
-        self.is_from_0 = True
-        # The revision and the path of each copy of a path of the revision before to itself.
-        self.renewals: list[tuple[int, bytes]] = []
-        # The runs of revisions after the first one that have no date, as a repository shows those that a user may not
-        # read.
-        self.undated: list[tuple[int, int]] = []
-        # The checksum of the bytes before the first revision, and of those of each revision.
-        self.sums = [0]
-        # How many bytes the copy has, and how many of the given dump were read.
-        self.length, self.read = 0, 0
-        # Why the dump is not well formed, where it isn't.
-        self.fault: str | None = None
-
-    def add(self, piece: bytes) -> None:
-        """Take the next bytes of the copy."""
-        self.length += len(piece)
-        self.sums[-1] = zlib.crc32(piece, self.sums[-1])
-
-    def begin_revision(self, section: bytes) -> None:
-        """Take the property section of the next revision, which begins here."""
-        rev = len(self.revisions)
-        if rev and DATE not in section:
-            first = self.undated.pop()[0] if self.undated and self.undated[-1][1] == rev - 1 else rev
-            self.undated.append((first, rev))
-        self.records_before = self.records
-        self.revisions.append(self.length)
-        self.sums.append(0)
-
-
-def number_of(digits: bytes) -> int:
-    if not digits.isdigit():
-        raise Malformed("a length is not a number")
-    return number(digits)
-
-
-def text_at(section: bytes, at: int, letter: bytes) -> tuple[bytes, int]:
-    """The name or the value at a place of a property section, and the place after it."""
-    end = section.find(b"\n", at)
-    if end < 0 or not section.startswith(letter, at):
-        raise Malformed("a property does not have its form")
-    stop = end + 1 + number_of(section[at + len(letter) : end])
-    if not section.startswith(b"\n", stop):
-        raise Malformed("a property does not have its length")
-    return section[end + 1 : stop], stop + 1
-
-
-def entries_of(section: bytes, is_delta: bool) -> list[tuple[bytes, bytes | None]]:
-    """The names and the values of a property section; without a value where the property is deleted."""
-    entries: list[tuple[bytes, bytes | None]] = []
-    at = 0
-    while at + len(LAST_LINE) != len(section) or not section.endswith(LAST_LINE):
-        value: bytes | None = None
-        if is_delta and section.startswith(b"D ", at):
-            name, at = text_at(section, at, b"D ")
-        else:
-            name, at = text_at(section, at, b"K ")
-            value, at = text_at(section, at, b"V ")
-        entries.append((name, value))
-    return entries
-
-
-def entry(name: bytes, value: bytes | None) -> bytes:
-    if value is None:
-        return b"D %d\n%s\n" % (len(name), name)
-    return b"K %d\n%s\nV %d\n%s\n" % (len(name), name, len(value), value)
-
-
-def body_of(section: bytes) -> bytes:
-    """The last headers of a block that has this property section alone, and the section."""
-    return b"Prop-content-length: %d\nContent-length: %d\n\n%s\n" % (len(section), len(section), section)
-
-
-def is_one_mergeinfo(section: bytes) -> bool:
-    """Return whether a property section sets `svn:mergeinfo` and nothing else. Long values need not be taken apart
-    then."""
-    if not section.startswith(ONE_MERGEINFO):
-        return False
-    digits, _, _ = section[len(ONE_MERGEINFO) : len(ONE_MERGEINFO) + 32].partition(b"\n")
-    return (
-        digits.isdigit()
-        and len(ONE_MERGEINFO) + len(digits) + int(digits) + 12 == len(section)
-        and section.endswith(b"\n" + LAST_LINE)
-    )
-
-
-def mergeinfo_alone(section: bytes, is_delta: bool) -> bytes:
-    """A property section with `svn:mergeinfo` alone: its last entry, or each of them where the section has changes. A
-    list without it says something, too: that there is none."""
-    if section == LAST_LINE or is_one_mergeinfo(section):
-        return section
-    entries = entries_of(section, is_delta)
-    if len(entries) == 1 and entries[0][0] == MERGEINFO:
-        return section
-    kept = [entry(name, value) for name, value in entries if name == MERGEINFO]
-    return b"".join(kept if is_delta else kept[-1:]) + LAST_LINE
-
-
 def names_any(section: bytes, is_delta: bool, front: bytes) -> bool:
     """Return whether a property section changes properties, given the headers before it. An empty list does where there
     were some: in a record that neither changes nor copies there were none."""
@@ -200,19 +85,19 @@ class Stripper:
     """
 
     def __init__(
-        self, source: Window, write: Write, places: bool = False, people: bool = False, known: Copy | None = None
+        self, source: Window, write: Write, places: bool = False, people: bool = False, known: Index | None = None
     ) -> None:
         self.source = source
-        self.copy = known or Copy()
+        self.index = known or Index()
         self._write = write
         self._places = places
         self._people = people
         self._is_piece = False
 
-    def run(self, seen: Callable[[int], object] = lambda read: None, has_first_line: bool = True) -> Copy:
+    def run(self, seen: Callable[[int], object] = lambda read: None, has_first_line: bool = True) -> Index:
         """Copy the whole dump, or what comes after a part that is known. `seen` is told now and then how many bytes
         were read. A piece that Subversion wrote has the first line of a dump and its UUID again."""
-        self._is_piece = has_first_line and self.copy.format > 0
+        self._is_piece = has_first_line and self.index.format > 0
         try:
             at = self._first_line() if has_first_line else 0
             turn = 0
@@ -224,12 +109,12 @@ class Stripper:
             if self.source.is_cut:
                 raise Malformed("the dump was cut while it was read")
         except Malformed as fault:
-            self.copy.fault = str(fault)
-        self.copy.read = self.source.read
-        return self.copy
+            self.index.fault = str(fault)
+        self.index.size = self.source.read
+        return self.index
 
     def _put(self, piece: bytes) -> None:
-        self.copy.add(piece)
+        self.index.add(piece)
         self._write(piece)
 
     def _place(self, at: int) -> bytes:
@@ -243,11 +128,11 @@ class Stripper:
         source.want(0, len(MAGIC) + 2)
         line = bytes(source.data[: len(MAGIC) + 2])
         if self._is_piece:
-            if FORMATS.get(line) != self.copy.format:
+            if FORMATS.get(line) != self.index.format:
                 raise Malformed("a piece of a dump has not the format of the dump")
             return len(line)
-        self.copy.format = FORMATS.get(line, 0)
-        if self.copy.format == 0:
+        self.index.format = FORMATS.get(line, 0)
+        if self.index.format == 0:
             self._put(bytes(source.data[: 1 << 16]))
             raise Malformed("the input is no dump in format 2 or 3")
         self._put(line + b"\n")
@@ -297,7 +182,7 @@ class Stripper:
             pieces.append(b"At: %d\nMods: text\n\n" % (base + found.start(1)) if self._places else b"\n")
             at = after
         self._put(b"".join(pieces))
-        self.copy.records += len(pieces) // 2
+        self.index.records += len(pieces) // 2
         return at
 
     def _record_in_order(self, at: int) -> int:
@@ -316,7 +201,7 @@ class Stripper:
         try:
             kept = b"\n"
             if properties is not None:
-                has_changes = self.copy.format == 3 and delta is not None
+                has_changes = self.index.format == 3 and delta is not None
                 given = data[begin : begin + section]
                 kept = body_of(mergeinfo_alone(given, has_changes))
                 has_properties = names_any(given, has_changes, front)
@@ -327,14 +212,14 @@ class Stripper:
         deltas = (delta or b"") + (text_delta or later_delta or b"")
         mods = self._mods(text is not None, has_properties)
         self._put(b"%s%s%s%s%s" % (front, deltas, self._place(found.start(1)), mods, kept))
-        self.copy.records += 1
+        self.index.records += 1
         return begin + whole
 
     def _note_copy(self, front: bytes) -> None:
         found = COPY.search(front)
-        rev = len(self.copy.revisions) - 1
+        rev = len(self.index.revisions) - 1
         if found and number(found[2]) == rev - 1 and clean(found[1]) == clean(found[3]):
-            self.copy.renewals.append((rev, clean(found[1])))
+            self.index.renewals.append((rev, clean(found[1])))
 
     def _any_block(self, at: int) -> int:
         """Copy a block whose headers come in any order."""
@@ -363,12 +248,12 @@ class Stripper:
             return self._revision(head, raw, end + 2, section, rest)
         if kind == b"Node-path":
             self._note_copy(head)
-            self.copy.records += 1
-            is_delta = self.copy.format == 3 and headers.get(b"Prop-delta") == b"true"
+            self.index.records += 1
+            is_delta = self.index.format == 3 and headers.get(b"Prop-delta") == b"true"
             given = section if b"Prop-content-length" in headers else -1
             return self._record(head, raw, end + 2, given, rest, is_delta, b"Text-content-length" in headers)
-        if self.copy.uuid is None:
-            self.copy.uuid = headers[kind]
+        if not self.index.uuid:
+            self.index.uuid = headers[kind]
         if not self._is_piece:
             self._put(head + b"\n")
         return self._after(raw, b"", end + 2, section + rest)
@@ -412,9 +297,9 @@ class Stripper:
         return at
 
     def _put_revision(self, head: bytes, section: bytes) -> None:
-        if not head.startswith(b"Revision-number: %d\n" % len(self.copy.revisions)):
-            self.copy.is_from_0 = False
-        self.copy.begin_revision(section)
+        if not head.startswith(b"Revision-number: %d\n" % len(self.index.revisions)):
+            self.index.is_from_0 = False
+        self.index.begin_revision(section)
         # svnhist does not judge the properties of revisions, so they are kept as they are.
         self._put(head + (body_of(section) if self._people and section else b"\n"))
 

@@ -7,11 +7,16 @@ b'log\\ttrunk@8'
 """
 from __future__ import annotations
 
-import json
 import re
-from typing import Generic, NamedTuple, TypeVar
+from typing import TYPE_CHECKING, Generic, NamedTuple, TypeVar
 
 from svnask.errors import Denied
+from svnask.lazy import Lazy
+
+if TYPE_CHECKING:
+    import json
+else:
+    json = Lazy("json")
 
 Range = tuple[int, int]
 # What separates the fields of a query, and queries.

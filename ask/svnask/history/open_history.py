@@ -10,10 +10,10 @@ import weakref
 from collections.abc import Callable, Iterable, Iterator
 from contextlib import closing
 from types import TracebackType
-from typing import BinaryIO, TypeVar
+from typing import TYPE_CHECKING, BinaryIO, TypeVar
 
-from svnask.copy.changes import WITHOUT_KIND, Change, KnownBlocks, changes_of, place_of_change
-from svnask.copy.store import Index, Record, Revision, Store
+from svnask.copy.index import Index
+from svnask.copy.store import Record, Revision, Store
 from svnask.engine.queries import (
     A,
     Answer,
@@ -30,13 +30,23 @@ from svnask.engine.queries import (
 from svnask.engine.talk import Talk
 from svnask.errors import Damaged, Denied, Failed, Refused
 from svnask.history import dates
-from svnask.history.lives import Tree
-from svnask.mergeinfo.explicit import Explicit
+from svnask.lazy import Lazy
 from svnask.paths import NUL_FOR_SLASH, Place, clean, is_at_or_below
 from svnask.sources.dump import Dump
 from svnask.sources.opening import source_of
 from svnask.sources.progress import Progress, Told
 from svnask.sources.source import Source
+
+if TYPE_CHECKING:
+    from svnask.copy import changes as copied_changes
+    from svnask.copy.changes import Change, KnownBlocks
+    from svnask.history import given_dates, lives
+    from svnask.history.lives import Tree
+    from svnask.mergeinfo import explicit as mergeinfo
+    from svnask.mergeinfo.explicit import Explicit
+else:
+    copied_changes, given_dates = Lazy("svnask.copy.changes"), Lazy("svnask.history.given_dates")
+    lives, mergeinfo = Lazy("svnask.history.lives"), Lazy("svnask.mergeinfo.explicit")
 
 # So few changes of a revision are looked through one by one.
 FEW = 16
@@ -74,7 +84,7 @@ class OpenHistory:
         self._refused: Refused | None = None
         self._changes: dict[int, list[Change]] = {}
         self._keys: dict[int, list[bytes]] = {}
-        self._known_blocks = KnownBlocks()
+        self._known_blocks: KnownBlocks | None = None
         self._tree: Tree | None = None
         self._explicit: Explicit | None = None
 
@@ -373,14 +383,14 @@ class OpenHistory:
 
     def _read_telling(self) -> tuple[Tree, Explicit]:
         """Read what made and unmade paths, and gave them mergeinfo. The records are not kept."""
-        explicit = Explicit(())
+        explicit = mergeinfo.Explicit(())
 
         def applied() -> Iterator[Record]:
             for record in self._store.telling():
                 explicit.apply(record)
                 yield record
 
-        return Tree(applied()), explicit
+        return lives.Tree(applied()), explicit
 
     @property
     def tree(self) -> Tree:
@@ -439,8 +449,10 @@ class OpenHistory:
         """
         if rev not in self._changes:
             self.known(rev)
+            if self._known_blocks is None:
+                self._known_blocks = copied_changes.KnownBlocks()
             found = self._known_blocks.changes(self._store.blocks_of(rev))
-            self._changes[rev] = changes_of(self._store.nodes(rev)) if found is None else found
+            self._changes[rev] = copied_changes.changes_of(self._store.nodes(rev)) if found is None else found
         return self._changes[rev]
 
     def changes_below(self, rev: int, top: bytes) -> list[Change]:
@@ -466,14 +478,14 @@ class OpenHistory:
         [('D', b'/branches/one', 'dir')]
         """
         lacking: list[tuple[int, int, Place]] = []
-        asked = set(revs)
-        for rev in self._store.revisions_with(WITHOUT_KIND, min(asked), max(asked)) if asked else ():
-            if rev in asked and WITHOUT_KIND.search(self._store.blocks_of(rev)):
+        asked, without_kind = set(revs), copied_changes.WITHOUT_KIND
+        for rev in self._store.revisions_with(without_kind, min(asked), max(asked)) if asked else ():
+            if rev in asked and without_kind.search(self._store.blocks_of(rev)):
                 found = [(at, change) for at, change in enumerate(self.changes(rev)) if change.kind is None]
                 has_deleted = any(change.letter == "D" for _, change in found)
                 records = self.records(rev, rev) if has_deleted else ()
                 made = [record for record in records if record.action in ("add", "replace")]
-                lacking += [(rev, at, place_of_change(change, rev, made)) for at, change in found]
+                lacking += [(rev, at, copied_changes.place_of_change(change, rev, made)) for at, change in found]
         if lacking:
             kinds = self.kinds(place for *_, place in lacking)
             for rev, at, place in lacking:
@@ -486,7 +498,7 @@ class OpenHistory:
         >>> history.revision_at("2024-01-01T00:05:30Z")
         5
         """
-        return dates.revision_at(dates.given(date), self.head, lambda rev: self.revision(rev).date)
+        return dates.revision_at(given_dates.given(date), self.head, lambda rev: self.revision(rev).date)
 
 
 def warn(text: str) -> None:

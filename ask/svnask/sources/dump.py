@@ -4,16 +4,21 @@ from __future__ import annotations
 import hashlib
 import os
 import stat
-from typing import IO, BinaryIO, NamedTuple
+from typing import IO, TYPE_CHECKING, BinaryIO, NamedTuple
 
 from svnask import files
-from svnask.copy.store import Index, Kept, Store
-from svnask.copy.strip import Copy, Stripper
-from svnask.copy.window import Window
+from svnask.copy.index import Index, Kept
+from svnask.copy.store import Store
 from svnask.errors import Failed
+from svnask.lazy import Lazy
 from svnask.sources.entries import Entry
 from svnask.sources.progress import Progress
-from svnask.sources.source import Source, index_of_copy, known_of
+from svnask.sources.source import Source
+
+if TYPE_CHECKING:
+    from svnask.copy import strip, window
+else:
+    strip, window = Lazy("svnask.copy.strip"), Lazy("svnask.copy.window")
 
 # How many bytes at an end of a file are looked at, and how long the headers of a revision are at most.
 END = 1 << 16
@@ -96,27 +101,29 @@ class Dump(Source):
         return stat.S_ISREG(os.fstat(self.given.fileno()).st_mode)
 
     def copied(self, file: IO[bytes], kept: Kept, progress: Progress) -> Index:
-        return self._copied(file, kept, progress, Copy(), 0)
+        return self._copied(file, progress, Index(kept))
 
-    def _copied(self, file: IO[bytes], kept: Kept, progress: Progress, known: Copy, begin: int) -> Index:
-        """Copy the file from an offset on."""
+    def _copied(self, file: IO[bytes], progress: Progress, known: Index) -> Index:
+        """Copy what comes after a part that is known."""
+        kept, begin = known.kept, known.size
         before = self.state() if self.is_regular else None
         size = before.size if before is not None else None
-        stripper = Stripper(Window(self.given, begin), file.write, places=True, people=True, known=known)
+        given = window.Window(self.given, begin)
+        stripper = strip.Stripper(given, file.write, places=True, people=True, known=known)
         found = stripper.run(lambda read: progress.of_bytes(read, size), has_first_line=not begin)
         if before is None:
-            return index_of_copy(found, found.read, kept)
+            return found.named(kept)
         if self.state()[:4] != before[:4]:
             raise Failed("the dump was changed while it was read")
-        return index_of_copy(found, max(before.size, found.read), kept._replace(state=before.text()))
+        found.size = max(before.size, found.size)
+        return found.named(kept._replace(state=before.text()))
 
     def grown(self, entry: Entry, kept: Store, progress: Progress) -> Store | None:
         if not self._has_grown(kept):
             return None
-        index = kept.index
         with entry.later_file(kept) as file:
-            self.given.seek(index.size)
-            grown = self._copied(file, index.kept, progress, known_of(index), index.size)
+            self.given.seek(kept.index.size)
+            grown = self._copied(file, progress, kept.index.clone())
         self.given.seek(self.begin)
         return entry.commit(grown) if grown.is_whole else None
 

@@ -15,7 +15,8 @@ from collections.abc import Callable, Iterator
 from typing import BinaryIO, TypeVar
 
 from svnask import files
-from svnask.copy.store import Front, Index, Kept, Store, front_of, index_of
+from svnask.copy.index import Front, Index, Kept, front_of, index_of
+from svnask.copy.store import Store
 from svnask.errors import Damaged
 from svnask.sources import cache
 
@@ -41,16 +42,16 @@ class Entry:
 
     def load(self) -> Store | None:
         """The copy, if it is there and as it was made."""
-        before: Index | None = None
+        before: Kept | None = None
         while True:
             index = read_index(self.folder)
-            if index is None or index == before or index.kept[:2] != (self.kind, self.place):
+            if index is None or index.kept == before or index.kept[:2] != (self.kind, self.place):
                 return None
             try:
                 store = Store(self.folder, index, True, is_loaded=True)
             except FileNotFoundError:
                 # Another run has joined the files meanwhile.
-                before = index
+                before = index.kept
                 continue
             except (OSError, Damaged):
                 return None
@@ -155,8 +156,7 @@ class Entry:
         try:
             with self.first_file() as (file, kept):
                 store.write(file)
-            kept = kept._replace(state=store.index.kept.state, base=store.index.length)
-            made = self.commit(store.index._replace(kept=kept))
+            made = self.commit(store.index.clone().named(kept._replace(state=store.index.kept.state)))
         except OSError:
             # The disk may be full. What is there is as good.
             return store

@@ -8,8 +8,8 @@ from contextlib import closing, suppress
 from typing import IO, TYPE_CHECKING, BinaryIO, NamedTuple
 
 from svnask import files
-from svnask.copy.store import Index, Store
-from svnask.copy.strip import Copy
+from svnask.copy.index import Index
+from svnask.copy.store import Store
 from svnask.errors import Failed
 from svnask.lazy import Lazy
 from svnask.sources import cache
@@ -74,29 +74,29 @@ def with_properties(source: Source, progress: Progress) -> None:
             raise Failed("the cache can't be written")
         with closing(kept), entry.first_file() as (file, named):
             index = rewritten(kept, sections, file)
-        entry.commit(index._replace(kept=named._replace(state=kept.index.kept.state, base=index.length))).close()
+        entry.commit(index.named(named._replace(state=kept.index.kept.state))).close()
 
 
 def rewritten(kept: Store, sections: Iterable[tuple[int, bytes]], file: IO[bytes]) -> Index:
     """Write a copy with other properties of revisions. Those that are not given stay."""
     given = iter(sections)
     following = next(given, None)
-    copy = Copy()
+    index, before = kept.index.clone(), kept.index.revisions
+    index.revisions, index.undated, index.sums, index.length = [], [], [0], 0
 
     def write(piece: bytes) -> None:
-        copy.add(piece)
+        index.add(piece)
         file.write(piece)
 
-    write(kept.between(0, kept.index.revisions[0]))
+    write(kept.between(0, before[0]))
     for rev in range(kept.head + 1):
         _, section = kept.section(rev)
         if following is not None and following[0] == rev:
             section = following[1]
             following = next(given, None)
-        copy.begin_revision(section)
+        index.begin_revision(section)
         write(kept.with_properties(rev, section))
-    found = kept.index._replace(revisions=copy.revisions, length=copy.length)
-    return found._replace(undated=copy.undated, sums=copy.sums)
+    return index
 
 
 class StoredSource(NamedTuple):

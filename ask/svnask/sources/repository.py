@@ -9,16 +9,17 @@ from contextlib import contextmanager
 from typing import IO
 
 from svnask import files
-from svnask.copy import strip
-from svnask.copy.store import Index, Kept, Store, properties_of
-from svnask.copy.strip import Copy, Stripper
+from svnask.copy import sections
+from svnask.copy.index import Index, Kept
+from svnask.copy.store import Store
+from svnask.copy.strip import Stripper
 from svnask.copy.window import Window
 from svnask.errors import Error, Failed, Unreached
 from svnask.sources import subversion, urls
 from svnask.sources.access import Access, of_asker
 from svnask.sources.entries import Entry
 from svnask.sources.progress import Progress
-from svnask.sources.source import Source, index_of_copy, known_of, whole_part
+from svnask.sources.source import Source
 from svnask.sources.subversion import Properties, Repository, Subversion
 
 LINE_END = re.compile(rb"\r\n?")
@@ -95,7 +96,7 @@ class SubversionSource(Source):
             self._last = kept.head, self.svn.properties(self.asked, kept.head)
         if self._shows_more(kept):
             return False
-        return normal(self._last[1]) == normal(properties_of(kept.section(kept.head)[1]))
+        return normal(self._last[1]) == normal(sections.properties_of(kept.section(kept.head)[1]))
 
     def _shows_more(self, kept: Store) -> bool:
         """Return whether a revision has a date that had none. So it is after a user was given rights to what it
@@ -106,56 +107,56 @@ class SubversionSource(Source):
         return bool(undated and self._is_more)
 
     def grown(self, entry: Entry, kept: Store, progress: Progress) -> Store | None:
-        index = kept.index
         if not self._is_same(kept):
             return None
-        known = known_of(index)
+        index = kept.index.clone()
         with entry.later_file(kept) as file:
-            reason = self._fetched(file, known, progress)
-        return self._committed(entry, known, reason, index)
+            reason = self._fetched(file, index, progress)
+        return self._committed(entry, index, reason, kept.index)
 
     def first(self, entry: Entry, progress: Progress) -> Store:
-        copy = Copy()
         with entry.first_file() as (file, kept):
-            reason = self._fetched(file, copy, progress)
-        return self._committed(entry, copy, reason, index_of_copy(Copy(), 0, kept))
+            index = Index(kept)
+            reason = self._fetched(file, index, progress)
+        return self._committed(entry, index, reason, Index(kept))
 
-    def _committed(self, entry: Entry, copy: Copy, reason: Error | None, before: Index) -> Store:
+    def _committed(self, entry: Entry, index: Index, reason: Error | None, before: Index) -> Store:
         """The copy, which is kept. Where the rest did not come, that is of the revisions that came whole."""
+        kept = before.kept
         if reason is None:
-            return entry.commit(index_of_copy(copy, copy.read, before.kept))
-        if copy.is_from_0 and len(copy.revisions) > len(before.revisions) + 1:
-            part = whole_part(copy)
+            return entry.commit(index.named(kept))
+        if index.is_from_0 and len(index.revisions) > len(before.revisions) + 1:
+            part = index.without_last()
             name = "later" if before.length else "dump"
-            os.truncate(entry.path(f"{name}.{before.kept.generation}"), part.length - before.kept.base)
-            entry.commit(index_of_copy(part, part.read, before.kept)).close()
+            os.truncate(entry.path(f"{name}.{kept.generation}"), part.length - kept.base)
+            entry.commit(part.named(kept)).close()
         raise reason
 
     def copied(self, file: IO[bytes], kept: Kept, progress: Progress) -> Index:
-        copy = Copy()
-        reason = self._fetched(file, copy, progress)
+        index = Index(kept)
+        reason = self._fetched(file, index, progress)
         if reason is not None:
             raise reason
-        return index_of_copy(copy, copy.read, kept)
+        return index.named(kept)
 
-    def _fetched(self, file: IO[bytes], copy: Copy, progress: Progress) -> Error | None:
+    def _fetched(self, file: IO[bytes], index: Index, progress: Progress) -> Error | None:
         """Copy the revisions that come after those of a copy. Why not all came, if they did not."""
-        first, last = len(copy.revisions), self.now.youngest
+        first, last = len(index.revisions), self.now.youngest
         words = self.dumped(first, last)
         try:
             with subversion.output_of(*words) as stream:
-                stripper = Stripper(Window(stream, copy.read), file.write, places=True, people=True, known=copy)
-                stripper.run(lambda read: progress.of_revisions(len(copy.revisions) - 1, first, last))
+                stripper = Stripper(Window(stream, index.size), file.write, places=True, people=True, known=index)
+                stripper.run(lambda read: progress.of_revisions(len(index.revisions) - 1, first, last))
         except Error as error:
             return error
-        if copy.fault is not None or not copy.is_from_0 or len(copy.revisions) <= last:
-            return Failed("%s printed something other than r%d to r%d: %s" % (words[0], first, last, copy.fault))
+        if index.fault is not None or not index.is_from_0 or len(index.revisions) <= last:
+            return Failed("%s printed something other than r%d to r%d: %s" % (words[0], first, last, index.fault))
         return None
 
     def new_properties(self) -> Iterable[tuple[int, bytes]]:
         """The property section of each revision, as it is now."""
         for rev, found in self.svn.all_properties(self.root, self.now.youngest):
-            yield rev, b"".join(strip.entry(*each) for each in found.items()) + strip.LAST_LINE
+            yield rev, b"".join(sections.entry(*each) for each in found.items()) + sections.LAST_LINE
 
 
 def normal(properties: Properties) -> Properties:
@@ -190,9 +191,9 @@ class Folder(SubversionSource):
             yield from sections_in(file, found)
 
 
-def sections_in(file: IO[bytes], copy: Copy) -> Iterator[tuple[int, bytes]]:
+def sections_in(file: IO[bytes], index: Index) -> Iterator[tuple[int, bytes]]:
     """The property section of each revision in a file."""
-    for rev, (begin, end) in enumerate(zip(copy.revisions, [*copy.revisions[1:], copy.length])):
+    for rev, (begin, end) in enumerate(zip(index.revisions, [*index.revisions[1:], index.length])):
         file.seek(begin)
         yield rev, file.read(end - begin).partition(b"\n\n")[2]
 

@@ -7,8 +7,8 @@ from contextlib import ExitStack, closing
 from typing import IO, TYPE_CHECKING
 
 from svnask import files
-from svnask.copy.store import Index, Kept, Store
-from svnask.copy.strip import Copy
+from svnask.copy.index import Index, Kept
+from svnask.copy.store import Store
 from svnask.errors import Failed, Usage
 from svnask.lazy import Lazy
 from svnask.sources import cache
@@ -147,42 +147,3 @@ class Source:
     def copied(self, file: IO[bytes], kept: Kept, progress: Progress) -> Index:
         """Copy all to a file."""
         raise NotImplementedError
-
-
-def known_of(index: Index) -> Copy:
-    """Return what is known of a copy that goes on."""
-    copy = Copy(index.format, index.uuid)
-    copy.records = copy.records_before = index.records
-    copy.revisions, copy.renewals = list(index.revisions), list(index.renewals)
-    copy.undated, copy.sums = list(index.undated), list(index.sums)
-    copy.length, copy.read = index.length, index.size
-    return copy
-
-
-def index_of_copy(copy: Copy, size: int, kept: Kept) -> Index:
-    """Return what is known of a copy that was made. All of it is in the first file, unless that has a length."""
-    return Index(
-        copy.format,
-        copy.uuid or b"",
-        copy.records,
-        size,
-        copy.length,
-        copy.fault is None and copy.is_from_0,
-        copy.revisions,
-        copy.renewals,
-        copy.undated,
-        copy.sums,
-        kept if kept.base else kept._replace(base=copy.length),
-    )
-
-
-def whole_part(copy: Copy) -> Copy:
-    """A copy without its last revision, of which a part may be missing."""
-    found = Copy(copy.format, copy.uuid)
-    found.records = found.records_before = copy.records_before
-    *found.revisions, found.length = copy.revisions
-    count = len(found.revisions)
-    found.is_from_0, found.read, found.sums = copy.is_from_0, copy.read, copy.sums[:-1]
-    found.renewals = [each for each in copy.renewals if each[0] < count]
-    found.undated = [(first, min(last, count - 1)) for first, last in copy.undated if first < count]
-    return found

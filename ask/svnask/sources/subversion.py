@@ -13,7 +13,7 @@ from collections.abc import Iterator, Sequence
 from contextlib import contextmanager, suppress
 from typing import IO, NamedTuple
 
-from svnask.copy.store import properties_of as properties_of_section
+from svnask.copy.sections import properties_of as properties_of_section
 from svnask.digits import number
 from svnask.engine.talk import name_of_signal
 from svnask.errors import Failed, Unreached

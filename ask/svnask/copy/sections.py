@@ -1,0 +1,119 @@
+"""Property sections: the properties of a record or a revision in a dump."""
+from __future__ import annotations
+
+import re
+from typing import NamedTuple
+
+from svnask.digits import number
+
+LAST_LINE = b"PROPS-END\n"
+MERGEINFO = b"svn:mergeinfo"
+ONE_MERGEINFO = b"K 13\nsvn:mergeinfo\nV "
+# A property of a revision, up to its value.
+ENTRY = re.compile(rb"K [0-9]+\n(.*)\nV ([0-9]{1,18})\n")
+
+
+class Malformed(Exception):
+    """A block does not have its form, or the dump ends in it."""
+
+
+def number_of(digits: bytes) -> int:
+    if not digits.isdigit():
+        raise Malformed("a length is not a number")
+    return number(digits)
+
+
+def text_at(section: bytes, at: int, letter: bytes) -> tuple[bytes, int]:
+    """The name or the value at a place of a property section, and the place after it."""
+    end = section.find(b"\n", at)
+    if end < 0 or not section.startswith(letter, at):
+        raise Malformed("a property does not have its form")
+    stop = end + 1 + number_of(section[at + len(letter) : end])
+    if not section.startswith(b"\n", stop):
+        raise Malformed("a property does not have its length")
+    return section[end + 1 : stop], stop + 1
+
+
+def entries_of(section: bytes, is_delta: bool) -> list[tuple[bytes, bytes | None]]:
+    """The names and the values of a property section; without a value where the property is deleted."""
+    entries: list[tuple[bytes, bytes | None]] = []
+    at = 0
+    while at + len(LAST_LINE) != len(section) or not section.endswith(LAST_LINE):
+        value: bytes | None = None
+        if is_delta and section.startswith(b"D ", at):
+            name, at = text_at(section, at, b"D ")
+        else:
+            name, at = text_at(section, at, b"K ")
+            value, at = text_at(section, at, b"V ")
+        entries.append((name, value))
+    return entries
+
+
+def entry(name: bytes, value: bytes | None) -> bytes:
+    if value is None:
+        return b"D %d\n%s\n" % (len(name), name)
+    return b"K %d\n%s\nV %d\n%s\n" % (len(name), name, len(value), value)
+
+
+def body_of(section: bytes) -> bytes:
+    """The last headers of a block that has this property section alone, and the section."""
+    return b"Prop-content-length: %d\nContent-length: %d\n\n%s\n" % (len(section), len(section), section)
+
+
+def is_one_mergeinfo(section: bytes) -> bool:
+    """Return whether a property section sets `svn:mergeinfo` and nothing else. Long values need not be taken apart
+    then."""
+    if not section.startswith(ONE_MERGEINFO):
+        return False
+    digits, _, _ = section[len(ONE_MERGEINFO) : len(ONE_MERGEINFO) + 32].partition(b"\n")
+    return (
+        digits.isdigit()
+        and len(ONE_MERGEINFO) + len(digits) + int(digits) + 12 == len(section)
+        and section.endswith(b"\n" + LAST_LINE)
+    )
+
+
+def mergeinfo_alone(section: bytes, is_delta: bool) -> bytes:
+    """A property section with `svn:mergeinfo` alone: its last entry, or each of them where the section has changes. A
+    list without it says something, too: that there is none."""
+    if section == LAST_LINE or is_one_mergeinfo(section):
+        return section
+    entries = entries_of(section, is_delta)
+    if len(entries) == 1 and entries[0][0] == MERGEINFO:
+        return section
+    kept = [entry(name, value) for name, value in entries if name == MERGEINFO]
+    return b"".join(kept if is_delta else kept[-1:]) + LAST_LINE
+
+
+def properties_of(section: bytes) -> dict[bytes, bytes]:
+    """The properties of a revision, as far as they have their form, which svnhist does not judge."""
+    values = {}
+    at = 0
+    while found := ENTRY.match(section, at):
+        begin = found.end()
+        end = begin + int(found[2])
+        values[found[1]] = section[begin:end]
+        at = end + 1
+    return values
+
+
+class Setting(NamedTuple):
+    """A change of the mergeinfo of a path: a text, or None where it is taken away."""
+
+    text: bytes | None
+
+
+def setting_of(section: bytes, is_delta: bool) -> Setting | None:
+    """Return what a property section does to mergeinfo."""
+    if not section:
+        return None
+    if is_one_mergeinfo(section):
+        return Setting(section[section.index(b"\n", len(ONE_MERGEINFO)) + 1 : -1 - len(LAST_LINE)])
+    try:
+        values = [value for name, value in entries_of(section, is_delta) if name == MERGEINFO]
+    except Malformed:
+        # For this svnhist refuses the dump.
+        return None
+    if values:
+        return Setting(values[-1])
+    return None if is_delta else Setting(None)
