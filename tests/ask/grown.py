@@ -10,6 +10,7 @@ import subprocess
 import unittest
 from collections.abc import Iterator
 from pathlib import Path
+from unittest import mock
 
 from dev.running import Outcome, Word, run
 from tests.ask import base
@@ -81,6 +82,18 @@ class Grown:
 
     def commit(self, name: str) -> None:
         svn("svn", "mkdir", "-q", "-m", f"Make {name}", f"{self.url}/{name}")
+
+
+@contextlib.contextmanager
+def instead_of_log(folder: Path, line: str) -> Iterator[None]:
+    """Have svn do what a line of the shell says where it is asked for a log."""
+    programs = folder / "programs"
+    programs.mkdir(exist_ok=True)
+    path = programs / "svn"
+    path.write_text(f'#!/bin/sh\nif [ "$1" = log ]; then {line}; fi\nPATH={os.environ["PATH"]} exec svn "$@"\n')
+    path.chmod(0o700)
+    with mock.patch.dict(os.environ, PATH=f"{programs}:{os.environ['PATH']}"):
+        yield
 
 
 def free_port() -> int:

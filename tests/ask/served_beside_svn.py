@@ -24,6 +24,8 @@ from tests.ask import base, grown
 
 NAMES = ("branches", "merges", "drawn", "copies", "inherited", "renames", "replaced", "again")
 PATHS = re.compile(rb"^Node-path: (.*)$", re.MULTILINE)
+# How often svn is asked what it may answer in several ways.
+TURNS = 30
 CODE = re.compile(r"[EW][0-9]{6}")
 
 
@@ -91,14 +93,15 @@ def drawn(seed: int, count: int, url: str, repositories: dict[str, grown.Grown])
 
 
 def difference(words: list[str]) -> str:
-    """Return how what svnask does with these words differs from what svn does."""
-    theirs = run(["svn", *words], environment=grown.ENVIRONMENT)
+    """Return how what svnask does with these words differs from what svn does. Which revisions svn finds eligible may
+    differ from run to run."""
     ours = base.called(*words)
-    expected = CODE.findall(theirs.errors.decode())
-    if (ours.status, ours.output) == (theirs.status, theirs.output) and (
-        ours.status == 0 or ours.said[8:15] in expected
-    ):
-        return ""
+    for _ in range(TURNS if "eligible" in words else 1):
+        theirs = run(["svn", *words], environment=grown.ENVIRONMENT)
+        expected = CODE.findall(theirs.errors.decode())
+        is_same = (ours.status, ours.output) == (theirs.status, theirs.output)
+        if is_same and (ours.status == 0 or ours.said[8:15] in expected):
+            return ""
     return f"{' '.join(words)}\n  svn: {theirs}\n  svnask: {ours}"
 
 

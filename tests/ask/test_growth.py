@@ -15,6 +15,7 @@ from dev.running import run
 from dev.tree import ROOT
 from svnask import History
 from svnask.copy.strip import Stripper
+from svnask.copy.writer import Writer
 from svnask.sources import entries
 from svnask.sources import opening as sources
 from svnask.sources import repository as repository_source
@@ -25,7 +26,7 @@ NAMES = ("branches", "merges", "renames", "values")
 KILLED = """
 import os, signal, sys
 from svnask.cli import main
-from svnask.copy import strip
+from svnask.copy import writer
 left = int(sys.argv.pop(1))
 
 def counted(call):
@@ -39,7 +40,7 @@ def counted(call):
 
 for place, name in (
     (os, "fsync"), (os, "replace"), (os, "unlink"), (os, "listdir"), (os, "utime"),
-    (strip.Stripper, "_put_revision"), (strip.Stripper, "_first_line"),
+    (writer.Writer, "put"),
 ):
     setattr(place, name, counted(getattr(place, name)))
 sys.exit(main.answer())
@@ -101,8 +102,8 @@ class Growth(Case):
         made.grow(4)
         dump.write_bytes(made.dump())
         for source in (*made.sources, dump):
-            put_revision = Stripper._put_revision  # pylint: disable=protected-access
-            with mock.patch.object(Stripper, "_put_revision", autospec=True, side_effect=put_revision) as put:
+            place, name = (Stripper, "_put_revision") if source == dump else (Writer, "revision")
+            with mock.patch.object(place, name, autospec=True, side_effect=getattr(place, name)) as put:
                 self.assertIn(b"youngest: 8\n", self.asked(source, "info"))
                 self.assertEqual(put.call_count, 4, source)
                 self.assertIn(b"youngest: 8\n", self.asked(source, "info"))
@@ -292,25 +293,21 @@ class Cut(Case):
 
     def test_a_command_that_fails_leaves_what_came_whole(self) -> None:
         made = self.repository("drawn", 31)
-        real = grown.svn("svnadmin", "dump", "-q", made.folder).output
-        folder = self.folder / "programs"
-        folder.mkdir()
-        for at in (0, 10, 300, 2000, 5000, len(real) - 1):
-            half = self.made("half", real[:at])
-            lines = (f'case "$1" in dump) cat {half}; echo "svnadmin: E000005: no luck" >&2; exit 1;; esac', "exit 1")
-            self.script("programs/svnadmin", *lines)
+        dump = grown.svn("svnadmin", "dump", "-q", made.folder).output
+        log = grown.svn("svn", "log", "--xml", "-v", "--with-all-revprops", "-r", "1:HEAD", made.url).output
+        for at in (0, 10, 300, 2000, 5000, len(log) - 30):
+            whole = log[:at].count(b"</logentry>")
+            half = self.made("half", log[:at])
             base.called(made.folder, "forget")
-            with mock.patch.dict(os.environ, PATH=f"{folder}:{os.environ['PATH']}"):
+            with grown.instead_of_log(self.folder, f'cat {half}; echo "svn: E000005: no luck" >&2; exit 1'):
                 done = base.called(made.folder, "info")
                 self.assertEqual((done.status, done.output), (1, b""), done)
                 self.assertTrue(done.said.startswith("svnask: E000005: no luck\n"), done)
                 kept = base.called(made.folder, "--json", "info", "--offline")
-            # A revision is whole where the next one has begun.
-            whole = real[:at].count(b"\nRevision-number: ") - 2
-            self.assertEqual((kept.status, "--offline" in done.said), (0, True) if at > 999 else (1, False), at)
+            self.assertEqual((kept.status, "--offline" in done.said), (0, True) if whole else (1, False), at)
             if kept.status == 0:
-                self.assertLessEqual(json.loads(kept.output)["youngest"], whole)
-            self.check_whole(made.folder, real)
+                self.assertEqual(json.loads(kept.output)["youngest"], whole)
+            self.check_whole(made.folder, dump)
 
     def test_a_full_disk(self) -> None:
         made = self.repository("drawn", 9)

@@ -147,11 +147,11 @@ class Failing(Case):
         with mock.patch.dict(os.environ, PATH=str(empty)):
             for source in made.sources:
                 self.check_said(base.called(source, "info"), 3, "cannot run svn: ")
-        svn = self.script("empty/svn", f'PATH={os.environ["PATH"]} exec svn "$@"')
-        self.assertTrue(os.path.exists(svn))
+        self.script("empty/svn", f'PATH={os.environ["PATH"]} exec svn "$@"')
+        expected = self.asked(self.made("dump", made.dump()), "log", "-v")
         with mock.patch.dict(os.environ, PATH=str(empty)):
-            for source, command in zip(made.sources, ("svnadmin", "svnrdump")):
-                self.check_said(base.called(source, "info"), 3, f"cannot run {command}: ")
+            for source in made.sources:
+                self.assertEqual(self.asked(source, "log", "-v"), expected)
 
     def test_a_command_that_is_killed_or_says_nothing(self) -> None:
         made = self.repository()
@@ -171,13 +171,8 @@ class Failing(Case):
 
     def test_no_command_is_left_over(self) -> None:
         made = self.repository()
-        programs = self.folder / "programs"
-        programs.mkdir()
-        self.script("programs/svnadmin", f"echo $$ > {self.folder}/number", "exec sleep 600")
-        with base.signals_end():
-            child = subprocess.Popen(
-                base.command(made.folder, "info"), env={**os.environ, "PATH": f"{programs}:{os.environ['PATH']}"}
-            )
+        with base.signals_end(), grown.instead_of_log(self.folder, f"echo $$ > {self.folder}/number; exec sleep 600"):
+            child = subprocess.Popen(base.command(made.folder, "info"))
         number = self.folder / "number"
         base.wait_for(lambda: number.exists() and number.read_text())
         child.terminate()
@@ -249,13 +244,11 @@ class Served(Case):
 
     def test_a_refusal_of_what_a_host_hides(self) -> None:
         made = self.repository()
-        faulty = self.made("faulty", made.dump().replace(b"Node-path: trunk\n", b"Node-path: other\n", 1))
-        (self.folder / "programs").mkdir()
-        for command in ("svnadmin", "svnrdump"):
-            self.script(f"programs/{command}", f"exec cat {faulty}")
-        with mock.patch.dict(os.environ, PATH=f"{self.folder}/programs:{os.environ['PATH']}"):
+        log = grown.svn("svn", "log", "--xml", "-v", "--with-all-revprops", "-r", "1:HEAD", made.url).output
+        faulty = self.made("faulty", log.replace(b">/trunk<", b">/other<", 1))
+        with grown.instead_of_log(self.folder, f"cat {faulty}; exit"):
             for source in made.sources:
                 for _ in range(2):
                     done = base.called(source, "log")
-                    self.check_said(done, 1, "dump refused: 16 NoParent at record 4\nrecord 4: r1 add /trunk/lib")
+                    self.check_said(done, 1, "dump refused: 16 NoParent at record 4\nrecord 4: r1 add /trunk/lib\n")
                     self.assertEqual("hides" in done.said, source == made.url)

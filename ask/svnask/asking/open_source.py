@@ -9,7 +9,7 @@ from types import TracebackType
 from svnask.asking.running import Stale, source_in
 from svnask.errors import Damaged
 from svnask.history.open_history import OpenHistory
-from svnask.sources.progress import Bar
+from svnask.sources.progress import Bar, Progress
 from svnask.sources.source import Source
 
 
@@ -42,7 +42,7 @@ class OpenSource:
     def updated(self, given: argparse.Namespace, source: Source) -> OpenHistory:
         """The history, which is open, as its source is now. It uses no cache if it began without one."""
         is_cached = not given.no_cache and not self._no_cache
-        with closing(Bar()) as bar:
+        with closing(Progress() if vars(given).get("quiet") else Bar()) as bar:
             if self._history is None:
                 self._history = OpenHistory.of(source, bar, is_cached, given.offline)
             else:

@@ -92,14 +92,9 @@ def about_revisions(front: bytes) -> list[str]:
 
 def about_record(record: Record) -> str:
     source = " from %s@%d" % (record.source[0].decode("utf-8", "replace"), record.source[1]) if record.source else ""
-    return "record %d: r%d %s %s%s, at byte %d" % (
-        record.number,
-        record.rev,
-        record.action,
-        record.path.decode("utf-8", "replace"),
-        source,
-        record.at,
-    )
+    place = f", at byte {record.at}" if record.at else ""
+    path = record.path.decode("utf-8", "replace")
+    return f"record {record.number}: r{record.rev} {record.action} {path}{source}{place}"
 
 
 def bad_query(line: bytes) -> str:

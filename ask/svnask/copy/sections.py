@@ -55,6 +55,10 @@ def entry(name: bytes, value: bytes | None) -> bytes:
     return b"K %d\n%s\nV %d\n%s\n" % (len(name), name, len(value), value)
 
 
+def section_of(properties: dict[bytes, bytes]) -> bytes:
+    return b"".join(entry(*each) for each in properties.items()) + LAST_LINE
+
+
 def body_of(section: bytes) -> bytes:
     """The last headers of a block that has this property section alone, and the section."""
     return b"Prop-content-length: %d\nContent-length: %d\n\n%s\n" % (len(section), len(section), section)

@@ -14,6 +14,7 @@ from typing import IO, TYPE_CHECKING, Any, BinaryIO, NamedTuple, Union
 from svnask import digits, files
 from svnask.copy.index import Index
 from svnask.copy.sections import LAST_LINE, Setting, body_of, properties_of, setting_of
+from svnask.copy.writer import FIRST_LINE
 from svnask.errors import Damaged
 from svnask.lazy import Lazy
 from svnask.paths import clean
@@ -27,8 +28,7 @@ else:
 Bytes = Union[mmap.mmap, bytes]
 # Of a record the path, the kind, the action, the revision and the path of its source, and what it gave and changed.
 Node = tuple[Any, ...]
-FIRST_LINE = b"SVN-fs-dump-format-version: 2\n\n"
-# The parts of a block of the copy. `Stripper` writes the headers in this order.
+# The parts of a block of the copy, whose headers are in this order.
 PLACE = rb"Node-path: (?P<path>[^\n]*)\n(?:Node-kind: (?P<kind>[^\n]*)\n)?"
 OF_RECORD = (
     rb"(?:Node-action: (?P<action>[^\n]*)\n)?(?:Node-copyfrom-rev: (?P<from_rev>[0-9]+)\n)?"

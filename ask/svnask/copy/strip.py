@@ -12,6 +12,7 @@ from collections.abc import Callable
 from svnask.copy.index import Index
 from svnask.copy.sections import LAST_LINE, Malformed, body_of, mergeinfo_alone, number_of
 from svnask.copy.window import Window
+from svnask.copy.writer import MODS
 from svnask.digits import number
 from svnask.paths import clean
 
@@ -38,13 +39,6 @@ LONGEST = (1 << 63) - 1
 UNKNOWN = b"Unknown: 1\n"
 COPIED = b"\nNode-copyfrom-path: "
 COPY = re.compile(rb"Node-path: ([^\n]*)\n(?s:.*)Node-copyfrom-rev: ([0-9]+)\nNode-copyfrom-path: ([^\n]*)\n")
-# What a record says of its text and its properties, by whether it gave and changed them.
-MODS = {
-    (False, False): b"",
-    (True, False): b"Mods: text\n",
-    (False, True): b"Mods: properties\n",
-    (True, True): b"Mods: text properties\n",
-}
 # How many pieces of a copy are written at once.
 MANY = 1024
 # The headers of a revision as Subversion writes them, and those of a record that changes a text alone.

@@ -291,8 +291,10 @@ class ShownMerges:
             if is_merged:
                 return []
             catalog.entries[target.path] = Lines({}, {}, [])
+        # As for svn, a range comes before whether the source exists.
+        bounds = bounds_of(source, question)
         segments = segments_of(history, answers, source)
-        there = located(segments, bounds_of(source, question))
+        there = located(segments, bounds)
         trace = log.Trace(segments, answers[Log(*source)].revisions)
         listed = listed_in(there, log.listed(history, trace))
         if not is_merged:

@@ -3,21 +3,19 @@ from __future__ import annotations
 
 import os
 import re
-import tempfile
-from collections.abc import Iterable, Iterator, Sequence
-from contextlib import contextmanager
+from collections.abc import Iterable, Iterator
+from contextlib import closing, contextmanager
 from typing import IO
 
 from svnask import files
 from svnask.copy import sections
 from svnask.copy.index import Index, Kept
 from svnask.copy.store import Store
-from svnask.copy.strip import Stripper
-from svnask.copy.window import Window
 from svnask.errors import Error, Failed, Unreached
-from svnask.sources import subversion, urls
+from svnask.sources import urls
 from svnask.sources.access import Access, of_asker
 from svnask.sources.entries import Entry
+from svnask.sources.fetching import Fetch
 from svnask.sources.progress import Progress
 from svnask.sources.source import Source
 from svnask.sources.subversion import Properties, Repository, Subversion
@@ -81,10 +79,6 @@ class SubversionSource(Source):
     def place(self) -> bytes:
         return self.root.encode("utf-8", "surrogateescape")
 
-    def dumped(self, first: int, last: int) -> Sequence[str]:
-        """The command that prints revisions as a dump."""
-        return self.svn.dumped(self.root, first, last)
-
     def is_as_kept(self, kept: Store) -> bool:
         return self.now.youngest == kept.head and self._is_same(kept)
 
@@ -106,57 +100,50 @@ class SubversionSource(Source):
             self._is_more = self.svn.has_date(self.root, undated)
         return bool(undated and self._is_more)
 
+    def _fetch(self, index: Index, progress: Progress) -> closing[Fetch]:
+        return closing(Fetch(self.svn, self.now, index, progress))
+
     def grown(self, entry: Entry, kept: Store, progress: Progress) -> Store | None:
         if not self._is_same(kept):
             return None
-        index = kept.index.clone()
-        with entry.later_file(kept) as file:
-            reason = self._fetched(file, index, progress)
-        return self._committed(entry, index, reason, kept.index)
+        with self._fetch(kept.index.clone(), progress) as fetch:
+            # What svnrdump prints can't be added to what was read of a log.
+            return None if fetch.needs_dump and kept.index.format == 2 else extended(entry, kept, fetch)
 
     def first(self, entry: Entry, progress: Progress) -> Store:
-        with entry.first_file() as (file, kept):
-            index = Index(kept)
-            reason = self._fetched(file, index, progress)
-        return self._committed(entry, index, reason, Index(kept))
-
-    def _committed(self, entry: Entry, index: Index, reason: Error | None, before: Index) -> Store:
-        """The copy, which is kept. Where the rest did not come, that is of the revisions that came whole."""
-        kept = before.kept
-        if reason is None:
-            return entry.commit(index.named(kept))
-        if index.is_from_0 and len(index.revisions) > len(before.revisions) + 1:
-            part = index.without_last()
-            name = "later" if before.length else "dump"
-            os.truncate(entry.path(f"{name}.{kept.generation}"), part.length - kept.base)
-            entry.commit(part.named(kept)).close()
-        raise reason
+        with self._fetch(Index(), progress) as fetch:
+            with entry.first_file() as (file, kept):
+                fetch.write(file)
+                if fetch.error is not None and not fetch.index.revisions:
+                    raise fetch.error
+            return extended(entry, fetch.committed(entry, kept), fetch)
 
     def copied(self, file: IO[bytes], kept: Kept, progress: Progress) -> Index:
-        index = Index(kept)
-        reason = self._fetched(file, index, progress)
-        if reason is not None:
-            raise reason
-        return index.named(kept)
-
-    def _fetched(self, file: IO[bytes], index: Index, progress: Progress) -> Error | None:
-        """Copy the revisions that come after those of a copy. Why not all came, if they did not."""
-        first, last = len(index.revisions), self.now.youngest
-        words = self.dumped(first, last)
-        try:
-            with subversion.output_of(*words) as stream:
-                stripper = Stripper(Window(stream, index.size), file.write, places=True, people=True, known=index)
-                stripper.run(lambda read: progress.of_revisions(len(index.revisions) - 1, first, last))
-        except Error as error:
-            return error
-        if index.fault is not None or not index.is_from_0 or len(index.revisions) <= last:
-            return Failed("%s printed something other than r%d to r%d: %s" % (words[0], first, last, index.fault))
-        return None
+        with self._fetch(Index(kept), progress) as fetch:
+            while not fetch.is_over:
+                fetch.write(file)
+        if fetch.error is not None:
+            raise fetch.error
+        return fetch.index.named(kept)
 
     def new_properties(self) -> Iterable[tuple[int, bytes]]:
         """The property section of each revision, as it is now."""
         for rev, found in self.svn.all_properties(self.root, self.now.youngest):
-            yield rev, b"".join(sections.entry(*each) for each in found.items()) + sections.LAST_LINE
+            yield rev, sections.section_of(found)
+
+
+def extended(entry: Entry, store: Store, fetch: Fetch) -> Store:
+    """Return a copy with what is still to be fetched, which is kept as far as it comes."""
+    while not fetch.is_over:
+        with entry.later_file(store) as file:
+            fetch.write(file)
+        if fetch.index.length > store.index.length:
+            store.close()
+            store = fetch.committed(entry, store.index.kept)
+    if fetch.error is not None:
+        store.close()
+        raise fetch.error
+    return store
 
 
 def normal(properties: Properties) -> Properties:
@@ -177,25 +164,6 @@ class Folder(SubversionSource):
     @property
     def place(self) -> bytes:
         return os.fsencode(self.folder)
-
-    def dumped(self, first: int, last: int) -> Sequence[str]:
-        return "svnadmin", "dump", "-q", "--incremental", "-r", f"{first}:{last}", self.folder
-
-    def new_properties(self) -> Iterable[tuple[int, bytes]]:
-        with tempfile.TemporaryFile() as file:
-            with subversion.output_of("svnadmin", "dump-revprops", "-q", self.folder) as stream:
-                stripper = Stripper(Window(stream), file.write, people=True)
-                found = stripper.run()
-            if found.fault is not None:
-                raise Failed(f"svnadmin printed something other than properties: {found.fault}")
-            yield from sections_in(file, found)
-
-
-def sections_in(file: IO[bytes], index: Index) -> Iterator[tuple[int, bytes]]:
-    """The property section of each revision in a file."""
-    for rev, (begin, end) in enumerate(zip(index.revisions, [*index.revisions[1:], index.length])):
-        file.seek(begin)
-        yield rev, file.read(end - begin).partition(b"\n\n")[2]
 
 
 class Address(SubversionSource):

@@ -1,40 +1,27 @@
-"""What svn, svnadmin and svnrdump are asked about a repository."""
+"""What Subversion is asked about a repository."""
 from __future__ import annotations
 
-import base64
 import bisect
-import codecs
-import os
 import re
-import subprocess
-import tempfile
 import xml.etree.ElementTree as xml
 from collections.abc import Iterator, Sequence
-from contextlib import contextmanager, suppress
-from typing import IO, NamedTuple
+from contextlib import suppress
+from typing import NamedTuple
 
-from svnask.copy.sections import properties_of as properties_of_section
-from svnask.digits import number
-from svnask.engine.talk import name_of_signal
 from svnask.errors import Failed, Unreached
-from svnask.sources.urls import ancestors, canonical
+from svnask.paths import joined
+from svnask.sources.commands import bytes_of, elements, output_of, property_value, without_peg
+from svnask.sources.urls import ancestors, canonical, target
 
-# The messages are in English, and a path may have any letters.
-LOCALE = {"LC_ALL": "C.UTF-8"}
-# What a command says of its failure.
-ERROR = re.compile(r"svn[a-z]*: (?:warning: )?([EW][0-9]{6}: .*)")
-# That there is nothing at a URL of a repository, and what follows from it.
-NONE_THERE, NOT_ALL = re.compile(r"W170000: URL '.*' non-existent in revision"), "E200009: "
 # That the lines of a value end in several ways, and that a date can't be read.
 MIXED, BOGUS = "E135000: ", "E125003: "
 # How svn prints a byte that it can't.
-ESCAPED = re.compile("\\?\\\\[0-9A-F]{2}|\ufffd")
-# What XML can't have, and what svn prints even so.
-CONTROL = re.compile("[\x00-\x08\x0b\x0c\x0e-\x1f\ufffe\uffff]")
-PIECE = 1 << 16
+ESCAPED = re.compile(rb"\?\\[0-9A-F]{2}")
 # How many revisions are named to svn one by one.
 MOST_NAMED = 500
-NAMED = {"author": b"svn:author", "date": b"svn:date", "msg": b"svn:log"}
+# The elements of a log that have the properties that most revisions have.
+DATE = b"svn:date"
+NAMED = {"author": b"svn:author", "date": DATE, "msg": b"svn:log"}
 
 Properties = dict[bytes, bytes]
 
@@ -97,123 +84,65 @@ class Subversion(NamedTuple):
         return False
 
     def properties(self, root: str, rev: int) -> Properties:
-        """The properties of a revision. Of some svn says something else, or fails where the lines of a value end in
-        several ways, and svnrdump does not."""
-        words = ("svn", "proplist", "--revprop", "-v", "--xml", "-r", str(rev))
+        """Return the properties of a revision. Those that svn converts, or fails to, are asked for by themselves."""
         try:
-            with output_of(*words, *self.words, root) as stream:
-                found = {
-                    each.attrib["name"].encode("utf-8"): property_value(each) for each in elements(stream, "property")
-                }
-            if not any(ESCAPED.search(value.decode("utf-8", "ignore")) for value in found.values()):
-                return found
+            found = self._properties(root, rev, "-v")
+            odd = [name for name, value in found.items() if ESCAPED.search(value)]
         except Unreached as error:
             if not str(error).startswith(MIXED):
                 raise
-        with output_of(*self.dumped(root, rev, rev), is_read_whole=False) as stream:
-            return properties_of_section(first_section(stream))
+            found, odd = {}, [*self._properties(root, rev)]
+        return {**found, **{name: self._property(root, rev, name) for name in odd}}
+
+    def _properties(self, root: str, rev: int, *options: str) -> Properties:
+        """Return the properties of a revision by their names, with values if the options have svn print them."""
+        words = ("svn", "proplist", "--revprop", "--xml", "-r", str(rev), *options, *self.words, root)
+        with output_of(*words) as stream:
+            return {bytes_of(each.attrib["name"]): property_value(each) for each in elements(stream, "property")}
+
+    def _property(self, root: str, rev: int, name: bytes) -> bytes:
+        """Return one property of a revision as it is."""
+        words = ("svn", "propget", "--revprop", "--xml", "-r", str(rev), name.decode("utf-8"), *self.words, root)
+        with output_of(*words) as stream:
+            return next((property_value(each) for each in elements(stream, "property")), b"")
+
+    def log(self, root: str, first: int, last: int, *options: str) -> Iterator[xml.Element]:
+        """Yield what the log of all paths has of some revisions from 1 on, with all properties."""
+        words = ("svn", "log", "--xml", "--with-all-revprops", "-r", f"{first}:{last}", *options)
+        with output_of(*words, *self.words, without_peg(root)) as stream:
+            yield from elements(stream, "logentry")
+
+    def properties_in_log(self, root: str, entry: xml.Element) -> Properties:
+        """Return the properties of a revision in a log. Those that svn could not print are asked for by themselves."""
+        rev = int(entry.attrib["revision"])
+        texts = {name: entry.findtext(tag) for tag, name in NAMED.items()}
+        found = {name: bytes_of(text) for name, text in texts.items() if text is not None}
+        if found and DATE not in found:
+            # An empty date is not there.
+            return self.properties(root, rev)
+        for name, value in found.items():
+            if ESCAPED.search(value):
+                found[name] = self._property(root, rev, name)
+        found.update((bytes_of(each.attrib["name"]), property_value(each)) for each in entry.iterfind("revprops/*"))
+        return found
 
     def all_properties(self, root: str, last: int) -> Iterator[tuple[int, Properties]]:
-        """The properties of all revisions from 0 on. Those that the log can't carry are asked for by themselves."""
+        """Yield the properties of all revisions from 0 on."""
         yield 0, self.properties(root, 0)
-        words = ("svn", "log", "--xml", "--with-all-revprops", "-r", f"1:{last}")
-        with output_of(*words, *self.words, without_peg(root)) as stream:
-            for element in elements(stream, "logentry"):
-                rev = int(element.attrib["revision"])
-                found, is_all = properties_in_log(element)
-                yield rev, found if is_all else {**self.properties(root, rev), **found}
+        for element in self.log(root, 1, last) if last else ():
+            yield int(element.attrib["revision"]), self.properties_in_log(root, element)
+
+    def kind(self, root: str, path: bytes, rev: int) -> str:
+        """Return whether a path of a revision is a `file` or a `dir`."""
+        with output_of("svn", "info", "--xml", *self.words, target(root, path, rev)) as stream:
+            return next(each.attrib["kind"] for each in elements(stream, "entry"))
+
+    def listed(self, root: str, top: bytes, rev: int) -> Iterator[tuple[bytes, str]]:
+        """Yield the paths below a folder of a revision, with their kinds, each after those above it."""
+        with output_of("svn", "list", "-R", "--xml", *self.words, target(root, top, rev)) as stream:
+            for each in elements(stream, "entry"):
+                yield joined(top, bytes_of(each.findtext("name", ""))), each.attrib["kind"]
 
     def dumped(self, root: str, first: int, last: int) -> Sequence[str]:
+        """Return the command that prints revisions as a dump, also where the root may not be read."""
         return ("svnrdump", "dump", "-q", "--incremental", "-r", f"{first}:{last}", *self.words, root)
-
-
-def properties_in_log(entry: xml.Element) -> tuple[Properties, bool]:
-    """The properties in an entry of a log that are there as they are, and whether these are all. An empty date is not
-    there."""
-    found: Properties = {}
-    texts = {name: entry.findtext(tag) for tag, name in NAMED.items()}
-    for name, text in texts.items():
-        if text is not None and not ESCAPED.search(text):
-            found[name] = text.encode("utf-8")
-    is_all = len(found) == sum(text is not None for text in texts.values()) and bool(texts[b"svn:date"])
-    found.update((each.attrib["name"].encode("utf-8"), property_value(each)) for each in entry.iter("property"))
-    return found, is_all
-
-
-def first_section(stream: IO[bytes]) -> bytes:
-    """The property section of the first revision in a dump."""
-    length = 0
-    for line in stream:
-        name, _, value = line.partition(b": ")
-        if name == b"Prop-content-length":
-            length = number(value.strip())
-        elif line == b"\n" and length:
-            return stream.read(length)
-    return b""
-
-
-def property_value(element: xml.Element) -> bytes:
-    """The value of a property."""
-    text = (element.text or "").encode("utf-8")
-    return base64.b64decode(text) if element.get("encoding") == "base64" else text
-
-
-def elements(stream: IO[bytes], tag: str) -> Iterator[xml.Element]:
-    """The elements of a name in XML, one after another. What XML can't have is replaced."""
-    parser, decoder = xml.XMLPullParser(["start", "end"]), codecs.getincrementaldecoder("utf-8")("replace")
-    parents: list[xml.Element] = []
-    try:
-        for piece in iter(lambda: stream.read(PIECE), b""):
-            parser.feed(CONTROL.sub("\ufffd", decoder.decode(piece)))
-            for event, element in parser.read_events():
-                if event == "start":
-                    parents.append(element)
-                    continue
-                parents.pop()
-                if element.tag == tag:
-                    yield element
-                    # There may be millions of them.
-                    parents[-1].remove(element)
-    except xml.ParseError as error:
-        raise Failed(f"svn printed something other than XML: {error}") from error
-
-
-@contextmanager
-def output_of(*words: str, is_read_whole: bool = True) -> Iterator[IO[bytes]]:
-    """Run a command, and yield its output. A failure is raised at the end. The command may ask for a password on the
-    terminal, which is also its standard input."""
-    with tempfile.TemporaryFile() as errors:
-        try:
-            process = subprocess.Popen(words, stdout=subprocess.PIPE, stderr=errors, env={**os.environ, **LOCALE})
-        except OSError as error:
-            raise Failed(f"cannot run {words[0]}: {error.strerror}") from error
-        assert process.stdout is not None
-        is_read = False
-        try:
-            yield process.stdout
-            is_read = is_read_whole
-        finally:
-            if not is_read:
-                # Nobody wants the rest.
-                process.terminate()
-            process.stdout.close()
-            status = process.wait()
-        if status and is_read_whole:
-            errors.seek(0)
-            raise failure(words[0], status, errors.read().decode("utf-8", "replace"))
-
-
-def failure(command: str, status: int, said: str) -> Failed | Unreached:
-    """Why a command failed, by its status and what it said."""
-    if status < 0:
-        return Failed(f"{command} was ended by {name_of_signal(-status)}")
-    lines = [found[1] for found in map(ERROR.match, said.splitlines()) if found]
-    if not lines:
-        return Failed(f"{command} ended with status {status}" + (said.strip() and ": " + said.strip().splitlines()[-1]))
-    first, *rest = [line for line in lines if not line.startswith(NOT_ALL)] or lines
-    return Unreached(first, rest, NONE_THERE.match(first) is not None)
-
-
-def without_peg(url: str) -> str:
-    """A URL for a command that takes a peg revision. svnrdump takes none, and svn none for properties of revisions."""
-    return url + "@"

@@ -32,6 +32,11 @@ def in_url(path: bytes) -> bytes:
     return urllib.parse.quote(path, safe=PLAIN + "@").encode("ascii")
 
 
+def target(root: str, path: bytes, rev: int) -> str:
+    """Return a path of a revision as an argument of svn, in the form in which svn prints it."""
+    return "%s%s@%d" % (root.rstrip("/"), in_url(path).decode("ascii"), rev)
+
+
 def ancestors(url: str) -> Iterator[str]:
     """A canonical URL, and those above it."""
     front, _, rest = url.partition("://")

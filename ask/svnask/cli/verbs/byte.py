@@ -5,7 +5,7 @@ from argparse import ArgumentParser, Namespace
 from collections.abc import Iterator
 
 from svnask.asking.verb import Object, Verb, counted, object_of_record
-from svnask.cli.verbs.record import described_record
+from svnask.cli.verbs.record import described_record, need_dump
 from svnask.copy.store import Record
 from svnask.errors import Failed
 from svnask.history.open_history import OpenHistory
@@ -18,6 +18,7 @@ class ByteVerb(Verb):
         parser.add_argument("offset", metavar="B", type=counted, help="an offset in the dump")
 
     def block(self, history: OpenHistory, given: Namespace) -> tuple[int, Record | None]:
+        need_dump(history)
         if not 0 <= given.offset <= history.index.size:
             raise Failed(f"the dump has {history.index.size} bytes", 1)
         found: tuple[int, Record | None] = (0, None)

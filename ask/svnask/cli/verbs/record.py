@@ -1,4 +1,4 @@
-"""`record`, `byte` and `info`: what stands in the dump itself."""
+"""`record`."""
 from __future__ import annotations
 
 from argparse import ArgumentParser, Namespace
@@ -7,7 +7,7 @@ from collections.abc import Iterator
 from svnask.asking.refusals import about_record
 from svnask.asking.verb import Object, Verb, counted, object_of_record
 from svnask.copy.store import Record
-from svnask.errors import Failed
+from svnask.errors import Failed, Usage
 from svnask.history.open_history import OpenHistory
 from svnask.texts import encoded
 
@@ -17,6 +17,12 @@ def described_record(history: OpenHistory, record: Record) -> Iterator[bytes]:
     yield from (b"  " + line + b"\n" for line in history.header(record.at))
 
 
+def need_dump(history: OpenHistory) -> None:
+    """Refuse a repository, which is read by its log."""
+    if history.source.root:
+        raise Usage("'record' and 'byte' are for a dump: a repository is read by its log, without one")
+
+
 class RecordVerb(Verb):
     judges = False
 
@@ -24,6 +30,7 @@ class RecordVerb(Verb):
         parser.add_argument("number", metavar="K", type=counted, help="the number of a record")
 
     def record(self, history: OpenHistory, given: Namespace) -> Record:
+        need_dump(history)
         for _, record in history.blocks():
             if record is not None and record.number == given.number:
                 return record

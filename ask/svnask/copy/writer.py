@@ -1,0 +1,79 @@
+"""Writes the copy of a repository: blocks as `strip` makes them of a dump, at no offset since there is none."""
+from __future__ import annotations
+
+from collections.abc import Callable, Sequence
+from typing import NamedTuple
+
+from svnask.copy.index import Index
+from svnask.copy.sections import LAST_LINE, MERGEINFO, Setting, body_of, entry
+from svnask.paths import Place
+
+FIRST_LINE = b"SVN-fs-dump-format-version: 2\n\n"
+# What a record says of its text and its properties, by whether it gave and changed them.
+MODS = {
+    (False, False): b"",
+    (True, False): b"Mods: text\n",
+    (False, True): b"Mods: properties\n",
+    (True, True): b"Mods: text properties\n",
+}
+
+
+class NewRecord(NamedTuple):
+    """A record that is to be written."""
+
+    path: bytes
+    action: bytes
+    kind: bytes = b""
+    source: Place | None = None
+    # The mergeinfo that the path has with this record, where that is said.
+    mergeinfo: Setting | None = None
+    has_text: bool = False
+    has_properties: bool = False
+
+    def block(self) -> bytes:
+        kind = b"Node-kind: %s\n" % self.kind if self.kind else b""
+        source = (
+            b"Node-copyfrom-rev: %d\nNode-copyfrom-path: %s\n" % (self.source[1], self.source[0][1:])
+            if self.source
+            else b""
+        )
+        mods = MODS[self.has_text, self.has_properties]
+        return b"Node-path: %s\n%sNode-action: %s\n%sAt: 0\n%s%s" % (
+            self.path[1:],
+            kind,
+            self.action,
+            source,
+            mods,
+            self._body(),
+        )
+
+    def _body(self) -> bytes:
+        if self.mergeinfo is None:
+            return b"\n"
+        text = self.mergeinfo.text
+        return body_of((b"" if text is None else entry(MERGEINFO, text)) + LAST_LINE)
+
+
+class Writer:
+    """Writes a copy, revision after revision, and its index."""
+
+    def __init__(self, index: Index, write: Callable[[bytes], object]) -> None:
+        self._index, self._write = index, write
+
+    def put(self, piece: bytes) -> None:
+        self._index.add(piece)
+        self._write(piece)
+
+    def begin(self, uuid: bytes) -> None:
+        """Write what stands before the revisions of a repository."""
+        self._index.format, self._index.uuid = 2, uuid
+        self.put(FIRST_LINE)
+
+    def revision(self, section: bytes, records: Sequence[NewRecord]) -> None:
+        """Write the next revision, with a section of properties, which may be empty."""
+        rev = len(self._index.revisions)
+        self._index.begin_revision(section)
+        self._index.records += len(records)
+        self._index.renewals += [(rev, each.path) for each in records if each.source == (each.path, rev - 1)]
+        head = b"Revision-number: %d\nAt: 0\n" % rev
+        self.put(b"".join([head, body_of(section) if section else b"\n", *(each.block() for each in records)]))

@@ -1,0 +1,131 @@
+"""Commands of Subversion that run, and what they print."""
+from __future__ import annotations
+
+import base64
+import fcntl
+import os
+import re
+import subprocess
+import tempfile
+import xml.etree.ElementTree as xml
+from collections.abc import Iterable, Iterator, Sequence
+from contextlib import closing, contextmanager, suppress
+from typing import IO
+
+from svnask.engine.talk import name_of_signal
+from svnask.errors import Failed, Unreached
+
+# The messages are in English, and a path may have any letters.
+LOCALE = {"LC_ALL": "C.UTF-8"}
+# What a command says of its failure.
+ERROR = re.compile(r"svn[a-z]*: (?:warning: )?([EW][0-9]{6}: .*)")
+# That there is nothing at a URL of a repository, and what follows from it.
+NONE_THERE, NOT_ALL = re.compile(r"W170000: URL '.*' non-existent in revision"), "E200009: "
+# What XML can't have, and what svn prints even so. Each is replaced by a sign and its number.
+SIGN = "\U0010f800"
+NOT_IN_XML = re.compile(f"[\x00-\x08\x0b\x0c\x0e-\x1f\udc80-\udcff\ufffe\uffff{SIGN}]")
+REPLACED = re.compile(SIGN + "([0-9a-f]{6})")
+# The call of Linux, which `fcntl` names from Python 3.10 on.
+F_SETPIPE_SZ = 1031
+# How much is read at once, and how much a pipe holds, where it may, so that the command need not wait.
+PIECE, HELD = 1 << 17, 1 << 20
+
+
+class Command:
+    """A command that runs. It may ask for a password on the terminal, which is also its standard input."""
+
+    def __init__(self, words: Sequence[str], output: int | IO[bytes]) -> None:
+        self._name = words[0]
+        self._errors = tempfile.TemporaryFile()
+        try:
+            self.process = subprocess.Popen(words, stdout=output, stderr=self._errors, env={**os.environ, **LOCALE})
+        except OSError as error:
+            self._errors.close()
+            raise Failed(f"cannot run {self._name}: {error.strerror}") from error
+
+    def said(self) -> str:
+        """Return what the command printed on standard error."""
+        self._errors.seek(0)
+        return self._errors.read().decode("utf-8", "replace")
+
+    def failure(self) -> Failed | Unreached:
+        """Return why the command failed, by its status and what it said."""
+        status, said = self.process.wait(), self.said()
+        if status < 0:
+            return Failed(f"{self._name} was ended by {name_of_signal(-status)}")
+        lines = [found[1] for found in map(ERROR.match, said.splitlines()) if found]
+        if not lines:
+            last = said.strip() and ": " + said.strip().splitlines()[-1]
+            return Failed(f"{self._name} ended with status {status}{last}")
+        first, *rest = [line for line in lines if not line.startswith(NOT_ALL)] or lines
+        return Unreached(first, rest, NONE_THERE.match(first) is not None)
+
+    def close(self) -> None:
+        """End the command, if it still runs."""
+        self.process.terminate()
+        if self.process.stdout is not None:
+            self.process.stdout.close()
+        self.process.wait()
+        self._errors.close()
+
+
+@contextmanager
+def output_of(*words: str, is_read_whole: bool = True) -> Iterator[IO[bytes]]:
+    """Run a command, and yield its output. A failure is raised at the end, unless nobody wants the rest."""
+    with closing(Command(words, subprocess.PIPE)) as command:
+        assert command.process.stdout is not None
+        with suppress(OSError):
+            fcntl.fcntl(command.process.stdout, F_SETPIPE_SZ, HELD)
+        yield command.process.stdout
+        if is_read_whole:
+            command.process.stdout.close()
+            if command.process.wait():
+                raise command.failure()
+
+
+def elements(stream: IO[bytes], tag: str) -> Iterator[xml.Element]:
+    """Yield the elements of a name in XML, which are neighbours, one after another. `bytes_of` returns what their texts
+    stand for."""
+    begin, end = re.compile(rb"<%s[\s>]" % tag.encode("ascii")), b"</%s>" % tag.encode("ascii")
+    left = b""
+    is_first = True
+    for piece in iter(lambda: stream.read(PIECE), b""):
+        if is_first and not piece.startswith(b"<"):
+            raise Failed("svn printed something other than XML")
+        is_first = False
+        whole, closing_tag, left = (left + piece).rpartition(end)
+        found = begin.search(whole)
+        if found is not None:
+            yield from parsed(whole[found.start() :] + closing_tag)
+
+
+def parsed(text: bytes) -> Iterable[xml.Element]:
+    """Return the elements of a part of what svn printed."""
+    read = text.decode("utf-8", "surrogateescape")
+    try:
+        return xml.fromstring(f"<all>{NOT_IN_XML.sub(numbered, read)}</all>")
+    except xml.ParseError as error:
+        raise Failed(f"svn printed something other than XML: {error}") from error
+
+
+def numbered(found: re.Match[str]) -> str:
+    return f"{SIGN}{ord(found[0]):06x}"
+
+
+def bytes_of(text: str) -> bytes:
+    """Return the bytes that svn printed for a text of XML."""
+    if SIGN in text:
+        text = REPLACED.sub(lambda found: chr(int(found[1], 16)), text)
+    return text.encode("utf-8", "surrogateescape")
+
+
+def property_value(element: xml.Element) -> bytes:
+    """Return the value of a property."""
+    text = bytes_of(element.text or "")
+    return base64.b64decode(text) if element.get("encoding") == "base64" else text
+
+
+def without_peg(url: str) -> str:
+    """Return a URL for a command that takes a peg revision. svnrdump takes none, and svn none for properties of
+    revisions."""
+    return url + "@"

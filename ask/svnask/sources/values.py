@@ -1,0 +1,143 @@
+"""Values of `svn:mergeinfo`, for which several processes of svn ask at once."""
+from __future__ import annotations
+
+import re
+import tempfile
+from abc import ABC, abstractmethod
+from collections import deque
+from collections.abc import Iterable, Iterator, Sequence
+from contextlib import closing
+from itertools import chain
+from typing import NamedTuple
+from urllib.parse import unquote_to_bytes as unquote
+
+from svnask.copy.sections import MERGEINFO
+from svnask.errors import Failed
+from svnask.sources.commands import Command, elements, property_value
+from svnask.sources.urls import canonical, path_below, target
+
+# How many processes ask at once, how many targets each of them has, and how long its words are together.
+PROCESSES, FEWEST, MOST, LONGEST = 8, 64, 500, 100000
+# How svn says that a target has no value.
+WITHOUT_VALUE = "W200017: "
+LACKING = re.compile(rf"^svn: warning: {WITHOUT_VALUE}.* not found on '(.*)'$", re.MULTILINE)
+
+
+class Wanted(NamedTuple):
+    """Paths of a revision whose values are wanted. All of them may be in a folder that is new there."""
+
+    rev: int
+    paths: Sequence[bytes]
+    folder: bytes | None = None
+
+
+class Asked(ABC):
+    """A process of svn that is asked for values."""
+
+    def __init__(self, words: Sequence[str], targets: Sequence[str]) -> None:
+        self._output = tempfile.TemporaryFile()
+        self._command = Command(("svn", "propget", MERGEINFO.decode(), "--xml", *words, *targets), self._output)
+
+    def close(self) -> None:
+        self._command.close()
+        self._output.close()
+
+    @abstractmethod
+    def values(self) -> Iterator[bytes | None]:
+        """Yield the values in the order in which they are wanted."""
+
+
+class OfTargets(Asked):
+    """Asks about paths of any revisions."""
+
+    def __init__(self, words: Sequence[str], targets: Sequence[str]) -> None:
+        super().__init__(words, targets)
+        self._words, self._targets = words, targets
+
+    def values(self) -> Iterator[bytes | None]:
+        """Yield the value of each target. svn prints those that there are in order, and warns of others."""
+        status = self._command.process.wait()
+        lacking = set(map(unquote, LACKING.findall(self._command.said()))) if status else set()
+        has_value = [unquote(each) not in lacking for each in self._targets]
+        if sum(has_value) == self._count():
+            self._output.seek(0)
+            found = chain.from_iterable(each.iterfind("property") for each in elements(self._output, "target"))
+            yield from (property_value(next(found)) if has else None for has in has_value)
+        elif not lacking:
+            error = self._command.failure()
+            raise Failed("cannot write what svn prints") if str(error).startswith(WITHOUT_VALUE) else error
+        elif len(self._targets) == 1:
+            yield None
+        else:
+            # A warning names a target in another way.
+            for each in self._targets:
+                with closing(OfTargets(self._words, [each])) as one:
+                    yield from one.values()
+
+    def _count(self) -> int:
+        """Return how many values were printed."""
+        self._output.seek(0)
+        return sum(line == b"<target\n" for line in self._output)
+
+
+class OfFolder(Asked):
+    """Asks about all that is in a folder."""
+
+    def __init__(self, words: Sequence[str], root: str, wanted: Wanted) -> None:
+        super().__init__(("-R", *words), [target(root, wanted.folder or b"/", wanted.rev)])
+        self._root, self._wanted = root, wanted
+
+    def values(self) -> Iterator[bytes | None]:
+        if self._command.process.wait():
+            raise self._command.failure()
+        self._output.seek(0)
+        found = {
+            path_below(canonical(each.attrib["path"]), self._root): property_value(each[0])
+            for each in elements(self._output, "target")
+        }
+        return map(found.get, self._wanted.paths)
+
+
+class MergeinfoValues:
+    """The values that paths of revisions have themselves, or None, in their order. They are asked for at once."""
+
+    def __init__(self, words: Sequence[str], root: str, wanted: Sequence[Wanted]) -> None:
+        self._words, self._root = words, root
+        count = sum(len(each.paths) for each in wanted if each.folder is None)
+        self._most = min(max(count // PROCESSES, FEWEST), MOST)
+        self._left = self._parts(wanted)
+        self._running: deque[Asked] = deque()
+        self._start()
+
+    def _parts(self, wanted: Iterable[Wanted]) -> Iterator[Asked]:
+        """Start a process for each folder, and one for as many other paths as a command takes."""
+        part: list[str] = []
+        length = 0
+        for each in wanted:
+            words = [target(self._root, path, each.rev) for path in each.paths if each.folder is None]
+            for word in words or [""]:
+                if part and (not word or len(part) == self._most or length + len(word) > LONGEST):
+                    yield OfTargets(self._words, part)
+                    part, length = [], 0
+                if word:
+                    part.append(word)
+                    length += len(word)
+            if each.folder is not None:
+                yield OfFolder(self._words, self._root, each)
+        if part:
+            yield OfTargets(self._words, part)
+
+    def _start(self) -> None:
+        while len(self._running) < PROCESSES and (asked := next(self._left, None)):
+            self._running.append(asked)
+
+    def __iter__(self) -> Iterator[bytes | None]:
+        while self._running:
+            with closing(self._running.popleft()) as asked:
+                yield from asked.values()
+            self._start()
+
+    def close(self) -> None:
+        """End what still asks."""
+        for asked in self._running:
+            asked.close()
