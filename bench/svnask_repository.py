@@ -75,9 +75,9 @@ def received() -> int:
     return int(line.split()[1])
 
 
-def bytes_of(run: Callable[[], Measured]) -> int:
+def bytes_of(command: Callable[[], Measured]) -> int:
     before = received()
-    run()
+    command()
     return received() - before
 
 

@@ -85,7 +85,7 @@ class Records(Case):
 
     def test_in_small_parts(self) -> None:
         small = [(fetching, "REVISIONS", 1), (fetching, "SECONDS", 0.0), (fetching, "TIMES", 0), (values, "MOST", 1)]
-        for name, many in (("drawn", 99), ("values", 1), ("merges", 1)):
+        for name, many in (("drawn", 99), ("merges", 1)):
             repository = self.repository(name, base.content_of(name))
             with contextlib.ExitStack() as patches:
                 for module, each, value in [*small, (logged, "MANY", many)]:
@@ -98,7 +98,7 @@ class Hidden(Case):
 
     def test_copies_whose_source_may_not_be_read(self) -> None:
         value, other = mergeinfo(b"/trunk:1"), mergeinfo(b"/trunk:1-2")
-        repository = self.repository(
+        self.repository(
             "repository",
             dump_of(
                 [added(b"trunk"), added(b"secret"), added(b"secret/a", properties=value), added(b"secret/a/f", FILE)],

@@ -32,11 +32,10 @@ class NewRecord(NamedTuple):
 
     def block(self) -> bytes:
         kind = b"Node-kind: %s\n" % self.kind if self.kind else b""
-        source = (
-            b"Node-copyfrom-rev: %d\nNode-copyfrom-path: %s\n" % (self.source[1], self.source[0][1:])
-            if self.source
-            else b""
-        )
+        source = b""
+        if self.source is not None:
+            path, rev = self.source
+            source = b"Node-copyfrom-rev: %d\nNode-copyfrom-path: %s\n" % (rev, path[1:])
         mods = MODS[self.has_text, self.has_properties]
         return b"Node-path: %s\n%sNode-action: %s\n%sAt: 0\n%s%s" % (
             self.path[1:],
