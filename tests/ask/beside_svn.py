@@ -244,13 +244,13 @@ class Compared(NamedTuple):
     words: list[str]
     wanted: Output
     found: Output
-    # Whether something was taken out of both that a server or svnrdump changes.
+    # Whether something was taken out of both that a server changes.
     is_altered: bool
 
     @property
     def outcome(self) -> str:
         if self.wanted == self.found:
-            return "the same but for CR or DEL" if self.is_altered else "the same"
+            return "the same but for DEL" if self.is_altered else "the same"
         text = self.wanted.text.decode("ascii", "replace")
         return f"not compared: {text}" if text in ENDED or text.startswith("no end after") else OTHER
 
@@ -282,9 +282,8 @@ def compare(kind: str, seed: int, place: Place, folder: Path, options: Sequence[
 
 
 def as_served(output: Output) -> Output:
-    """Return what was printed, without what servers or svnrdump change in messages."""
-    text = output.text.replace(b"\r", b"").replace(b"&#13;", b"").replace(b"\x7f", b"?\\127")
-    return output._replace(text=text)
+    """Return what was printed, without what servers change in messages."""
+    return output._replace(text=output.text.replace(b"\x7f", b"?\\127"))
 
 
 def compared(kinds: list[str], first: int, last: int, folder: Path, by: str = "file") -> Iterator[tuple[int, Compared]]:

@@ -301,8 +301,9 @@ def merge_of_features(chance: random.Random, branches: list[Feature], target: Fe
             first = chance.randint(first, last)
             last = chance.randint(first, last)
         target.take(source, range(first, last + 1))
-    # Of a value that stays svnrdump says nothing.
-    nodes = [changed(target.path, mergeinfo(target.text()))] if target.text() != before else []
+    # A value may be set to what it is.
+    is_set = target.text() != before or (before and chance.random() < 0.3)
+    nodes = [changed(target.path, mergeinfo(target.text()))] if is_set else []
     if not nodes or chance.random() < 0.7:
         nodes.append(changed(target.path + b"/f", text=b"merged %d\n" % rev))
     return nodes

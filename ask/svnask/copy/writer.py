@@ -36,15 +36,8 @@ class NewRecord(NamedTuple):
         if self.source is not None:
             path, rev = self.source
             source = b"Node-copyfrom-rev: %d\nNode-copyfrom-path: %s\n" % (rev, path[1:])
-        mods = MODS[self.has_text, self.has_properties]
-        return b"Node-path: %s\n%sNode-action: %s\n%sAt: 0\n%s%s" % (
-            self.path[1:],
-            kind,
-            self.action,
-            source,
-            mods,
-            self._body(),
-        )
+        front = b"Node-path: %s\n%sNode-action: %s\n" % (self.path[1:], kind, self.action)
+        return front + source + b"At: 0\n" + MODS[self.has_text, self.has_properties] + self._body()
 
     def _body(self) -> bytes:
         if self.mergeinfo is None:

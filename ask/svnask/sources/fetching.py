@@ -5,21 +5,25 @@ import time
 from collections import deque
 from collections.abc import Iterator
 from itertools import chain, islice
-from typing import IO
+from typing import IO, TYPE_CHECKING
 
 from svnask.copy.index import Index, Kept
 from svnask.copy.sections import section_of
 from svnask.copy.store import Store
-from svnask.copy.strip import Stripper
-from svnask.copy.window import Window
 from svnask.copy.writer import Writer
 from svnask.errors import Error, Failed, Unreached
+from svnask.lazy import Lazy
 from svnask.sources.commands import output_of
 from svnask.sources.entries import Entry
 from svnask.sources.logged import LoggedRevision, logged_revisions
 from svnask.sources.progress import Progress
 from svnask.sources.subversion import Repository, Subversion
 from svnask.sources.values import MergeinfoValues
+
+if TYPE_CHECKING:
+    from svnask.copy import strip, window
+else:
+    strip, window = Lazy("svnask.copy.strip"), Lazy("svnask.copy.window")
 
 # How many revisions and paths are in memory at once.
 REVISIONS, PATHS = 2000, 20000
@@ -150,7 +154,8 @@ class Fetch:
         first, last, index = self._first, self._now.youngest, self.index
         words = self._svn.dumped(self._now.root, first, last)
         with output_of(*words) as stream:
-            stripper = Stripper(Window(stream, index.size), file.write, places=True, people=True, known=index)
+            dump = window.Window(stream, index.size)
+            stripper = strip.Stripper(dump, file.write, places=True, people=True, known=index)
             stripper.run(lambda read: self._progress.of_revisions(len(index.revisions) - 1, first, last))
         if not index.is_whole or len(index.revisions) <= last:
             raise Failed("%s printed something other than r%d to r%d: %s" % (words[0], first, last, index.fault))

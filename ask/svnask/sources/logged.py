@@ -7,6 +7,7 @@ from typing import NamedTuple
 
 from svnask.copy.sections import Setting
 from svnask.copy.writer import NewRecord
+from svnask.errors import Failed
 from svnask.paths import Place, is_at_or_below, parent_of, tops_of
 from svnask.sources.commands import bytes_of
 from svnask.sources.subversion import Properties, Subversion
@@ -72,6 +73,8 @@ def logged_path(element: xml.Element) -> LoggedPath:
     """Return a path in an entry of the log."""
     get = element.get
     path, action, source = bytes_of(element.text or ""), get("action", ""), get("copyfrom-path")
+    if b"\n" in path:
+        raise Failed(f"a path has a newline, which no dump can have: {path!r}")
     return LoggedPath(
         path,
         action,
