@@ -244,13 +244,13 @@ class Compared(NamedTuple):
     words: list[str]
     wanted: Output
     found: Output
-    # Whether something was taken out of both that a server changes.
+    # Whether something was taken out of both that a server changes over http.
     is_altered: bool
 
     @property
     def outcome(self) -> str:
         if self.wanted == self.found:
-            return "the same but for DEL" if self.is_altered else "the same"
+            return "the same but for CR or DEL" if self.is_altered else "the same"
         text = self.wanted.text.decode("ascii", "replace")
         return f"not compared: {text}" if text in ENDED or text.startswith("no end after") else OTHER
 
@@ -276,14 +276,15 @@ def compare(kind: str, seed: int, place: Place, folder: Path, options: Sequence[
         url = re.compile(re.escape(place.url.encode()) + rb"([^\n' ]*)")
         printed = url.sub(lambda found: urllib.parse.unquote_to_bytes(found[1]) or b"/", printed)
     wanted, own = output_of(done.status, printed, said), output_of(found.status, found.output, found.said)
-    if place.source != place.url or wanted == own:
+    if not place.url.startswith("http") or wanted == own:
         return Compared(words, wanted, own, False)
     return Compared(words, as_served(wanted), as_served(own), True)
 
 
 def as_served(output: Output) -> Output:
-    """Return what was printed, without what servers change in messages."""
-    return output._replace(text=output.text.replace(b"\x7f", b"?\\127"))
+    """Return what was printed, without what a server changes in messages over http."""
+    text = output.text.replace(b"\r", b"").replace(b"&#13;", b"").replace(b"\x7f", b"?\\127")
+    return output._replace(text=text)
 
 
 def compared(kinds: list[str], first: int, last: int, folder: Path, by: str = "file") -> Iterator[tuple[int, Compared]]:

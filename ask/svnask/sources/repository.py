@@ -87,7 +87,7 @@ class SubversionSource(Source):
         if self.now.uuid != kept.index.uuid or not 0 <= kept.head <= self.now.youngest:
             return False
         if self._last[0] != kept.head:
-            self._last = kept.head, self.svn.properties(self.asked, kept.head)
+            self._last = kept.head, self.svn.properties(self.asked, kept.head, has_line_ends=False)
         if self._shows_more(kept):
             return False
         return normal(self._last[1]) == normal(sections.properties_of(kept.section(kept.head)[1]))

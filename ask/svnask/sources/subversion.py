@@ -83,11 +83,12 @@ class Subversion(NamedTuple):
                     return True
         return False
 
-    def properties(self, root: str, rev: int) -> Properties:
-        """Return the properties of a revision. Those that svn converts, or fails to, are asked for by themselves."""
+    def properties(self, root: str, rev: int, has_line_ends: bool = True) -> Properties:
+        """Return the properties of a revision. Those that svn prints in another way, or fails to, are asked for by
+        themselves. All line ends may be newlines."""
         try:
             found = self._properties(root, rev, "-v")
-            odd = [name for name, value in found.items() if ESCAPED.search(value)]
+            odd = [name for name, value in found.items() if ESCAPED.search(value) or has_line_ends and b"\n" in value]
         except Unreached as error:
             if not str(error).startswith(MIXED):
                 raise
@@ -117,9 +118,9 @@ class Subversion(NamedTuple):
         rev = int(entry.attrib["revision"])
         texts = {name: entry.findtext(tag) for tag, name in NAMED.items()}
         found = {name: bytes_of(text) for name, text in texts.items() if text is not None}
-        if found and DATE not in found:
-            # An empty date is not there.
-            return self.properties(root, rev)
+        if found and DATE not in found and DATE in self._properties(root, rev):
+            # The log leaves an empty date out.
+            found[DATE] = b""
         for name, value in found.items():
             if ESCAPED.search(value):
                 found[name] = self._property(root, rev, name)
