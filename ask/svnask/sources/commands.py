@@ -8,7 +8,7 @@ import re
 import subprocess
 import tempfile
 import xml.etree.ElementTree as xml
-from collections.abc import Iterable, Iterator, Sequence
+from collections.abc import Iterator, Sequence
 from contextlib import closing, contextmanager, suppress
 from typing import IO
 
@@ -84,8 +84,8 @@ def output_of(*words: str, is_read_whole: bool = True) -> Iterator[IO[bytes]]:
 
 
 def elements(stream: IO[bytes], tag: str) -> Iterator[xml.Element]:
-    """Yield the elements of a name in XML, which are neighbours, one after another. `bytes_of` returns what their texts
-    stand for."""
+    """Yield the elements of a name in XML, one after another. They are neighbours, and each has an end tag. `bytes_of`
+    returns what their texts stand for."""
     begin, end = re.compile(rb"<%s[\s>]" % tag.encode("ascii")), b"</%s>" % tag.encode("ascii")
     left = b""
     is_first = True
@@ -96,14 +96,14 @@ def elements(stream: IO[bytes], tag: str) -> Iterator[xml.Element]:
         whole, closing_tag, left = (left + piece).rpartition(end)
         found = begin.search(whole)
         if found is not None:
-            yield from parsed(whole[found.start() :] + closing_tag)
+            yield from parsed(b"<all>" + whole[found.start() :] + closing_tag + b"</all>")
 
 
-def parsed(text: bytes) -> Iterable[xml.Element]:
-    """Return the elements of a part of what svn printed."""
+def parsed(text: bytes) -> xml.Element:
+    """Return the element of a text that svn printed."""
     read = text.decode("utf-8", "surrogateescape")
     try:
-        return xml.fromstring(f"<all>{NOT_IN_XML.sub(numbered, read)}</all>")
+        return xml.fromstring(NOT_IN_XML.sub(numbered, read))
     except xml.ParseError as error:
         raise Failed(f"svn printed something other than XML: {error}") from error
 
