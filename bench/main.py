@@ -26,7 +26,7 @@ from bench.subversion import MEMORY
 from dev.running import Failed
 from dev.tree import ROOT, programs
 
-# The modules of the parts, in their order. The last four share a repository, and the very last one lets it grow.
+# The modules of the parts, in their order. Three of them share a repository.
 MODULES = """
 reading_bundles reading_dumps short_history_queries merged_and_eligible workers whole_runs blocks wide_directories
 long_history_queries mergeinfo_values long_mergeinfo ranges hostile_input ten_million_records svnask_calls

@@ -147,7 +147,7 @@ def extended(entry: Entry, store: Store, fetch: Fetch) -> Store:
 
 
 def normal(properties: Properties) -> Properties:
-    """Properties as svnrdump writes them, which has each line end in one way, and a value before a byte zero."""
+    """Return properties as they can be compared: svn may convert line ends, and a log ends a value at a byte zero."""
     return {name: LINE_END.sub(b"\n", value).partition(b"\0")[0] for name, value in properties.items()}
 
 
