@@ -86,7 +86,7 @@ class Grown:
 
 @contextlib.contextmanager
 def instead_of_log(folder: Path, line: str) -> Iterator[None]:
-    """Have svn do what a line of the shell says where it is asked for a log."""
+    """Run a line of the shell in place of svn where that is asked for a log."""
     programs = folder / "programs"
     programs.mkdir(exist_ok=True)
     path = programs / "svn"

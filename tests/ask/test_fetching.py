@@ -94,7 +94,7 @@ class Records(Case):
 
 
 class Hidden(Case):
-    """What a server hides of a copy is added there."""
+    """A copy of a path that a server hides adds what is in it."""
 
     def test_copies_whose_source_may_not_be_read(self) -> None:
         value, other = mergeinfo(b"/trunk:1"), mergeinfo(b"/trunk:1-2")
@@ -134,7 +134,7 @@ class Hidden(Case):
 
 
 class Log(Case):
-    """What the log does not say, or says in another way."""
+    """Logs that lack something, or have it in another form."""
 
     ODD = b"trunk/\x01\x1f\x7f \xef\xbf\xbd?\\003 <&>\xf4\x8f\xa0\x800\"'%20@3"
 

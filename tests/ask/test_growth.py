@@ -15,7 +15,7 @@ from dev.running import run
 from dev.tree import ROOT
 from svnask import History
 from svnask.copy.strip import Stripper
-from svnask.copy.writer import Writer
+from svnask.copy.writer import CopyWriter
 from svnask.sources import entries
 from svnask.sources import opening as sources
 from svnask.sources import repository as repository_source
@@ -40,7 +40,7 @@ def counted(call):
 
 for place, name in (
     (os, "fsync"), (os, "replace"), (os, "unlink"), (os, "listdir"), (os, "utime"),
-    (writer.Writer, "put"),
+    (writer.CopyWriter, "put"),
 ):
     setattr(place, name, counted(getattr(place, name)))
 sys.exit(main.answer())
@@ -102,7 +102,7 @@ class Growth(Case):
         made.grow(4)
         dump.write_bytes(made.dump())
         for source in (*made.sources, dump):
-            place, name = (Stripper, "_put_revision") if source == dump else (Writer, "revision")
+            place, name = (Stripper, "_put_revision") if source == dump else (CopyWriter, "revision")
             with mock.patch.object(place, name, autospec=True, side_effect=getattr(place, name)) as put:
                 self.assertIn(b"youngest: 8\n", self.asked(source, "info"))
                 self.assertEqual(put.call_count, 4, source)

@@ -310,7 +310,7 @@ def part_of(file: BinaryIO, length: int) -> Bytes:
     return mmap.mmap(file.fileno(), length, access=mmap.ACCESS_READ) if length else b""
 
 
-def section_of(found: re.Match[bytes]) -> bytes:
+def section_of_block(found: re.Match[bytes]) -> bytes:
     """The property section of a block."""
     return found.string[found.end() : found.end() + digits.number(found["length"] or b"0")]
 
@@ -345,7 +345,7 @@ def record_of(found: re.Match[bytes], number: int, rev: int, version: int) -> Re
         (action or b"").decode("latin-1"),
         None if kind is None else kind.decode("latin-1"),
         (clean(from_path), digits.number(from_rev)) if from_rev and from_path is not None else None,
-        setting_of(section_of(found), version == 3 and delta is not None),
+        setting_of(section_of_block(found), version == 3 and delta is not None),
         digits.number(at),
         text is not None,
         properties is not None,

@@ -46,7 +46,7 @@ class NewRecord(NamedTuple):
         return body_of((b"" if text is None else entry(MERGEINFO, text)) + LAST_LINE)
 
 
-class Writer:
+class CopyWriter:
     """Writes a copy, revision after revision, and its index."""
 
     def __init__(self, index: Index, write: Callable[[bytes], object]) -> None:

@@ -96,19 +96,19 @@ def elements(stream: IO[bytes], tag: str) -> Iterator[xml.Element]:
         whole, closing_tag, left = (left + piece).rpartition(end)
         found = begin.search(whole)
         if found is not None:
-            yield from parsed(b"<all>" + whole[found.start() :] + closing_tag + b"</all>")
+            yield from element_of(b"<all>" + whole[found.start() :] + closing_tag + b"</all>")
 
 
-def parsed(text: bytes) -> xml.Element:
+def element_of(text: bytes) -> xml.Element:
     """Return the element of a text that svn printed."""
     read = text.decode("utf-8", "surrogateescape")
     try:
-        return xml.fromstring(NOT_IN_XML.sub(numbered, read))
+        return xml.fromstring(NOT_IN_XML.sub(as_number, read))
     except xml.ParseError as error:
         raise Failed(f"svn printed something other than XML: {error}") from error
 
 
-def numbered(found: re.Match[str]) -> str:
+def as_number(found: re.Match[str]) -> str:
     return f"{SIGN}{ord(found[0]):06x}"
 
 

@@ -10,7 +10,7 @@ from typing import IO, TYPE_CHECKING
 from svnask.copy.index import Index, Kept
 from svnask.copy.sections import section_of
 from svnask.copy.store import Store
-from svnask.copy.writer import Writer
+from svnask.copy.writer import CopyWriter
 from svnask.errors import Error, Failed, Unreached
 from svnask.lazy import Lazy
 from svnask.sources.commands import output_of
@@ -33,7 +33,7 @@ SECONDS, TIMES = 1.0, 20
 UNREADABLE = ("E220001: ", "E175013: ")
 
 
-class Piece:
+class FetchedPart:
     """Neighbouring revisions, of which the values of mergeinfo are asked for."""
 
     def __init__(self, svn: Subversion, root: str, revisions: list[LoggedRevision]) -> None:
@@ -54,8 +54,8 @@ class Fetch:
         self._patience = SECONDS
         self._first = len(index.revisions)
         self._revisions = logged_revisions(svn, now.root, max(self._first, 1), now.youngest)
-        self._asked: deque[Piece] = deque()
-        self._pieces: Iterator[Piece] | None = None
+        self._asked: deque[FetchedPart] = deque()
+        self._pieces: Iterator[FetchedPart] | None = None
         try:
             self._pieces = self._in_pieces(list(islice(self._revisions, 1)))
         except Unreached as error:
@@ -106,16 +106,16 @@ class Fetch:
             self.error = error
         yield part
 
-    def _in_pieces(self, ahead: list[LoggedRevision]) -> Iterator[Piece]:
+    def _in_pieces(self, ahead: list[LoggedRevision]) -> Iterator[FetchedPart]:
         """Yield each piece when the next one was read, so that svn has had time to answer."""
         for revisions in self._parts(ahead):
-            self._asked.append(Piece(self._svn, self._now.root, revisions))
+            self._asked.append(FetchedPart(self._svn, self._now.root, revisions))
             if len(self._asked) > 1:
                 yield self._asked.popleft()
         yield from self._asked
 
-    def _write_log(self, file: IO[bytes], pieces: Iterator[Piece]) -> None:
-        writer = Writer(self.index, file.write)
+    def _write_log(self, file: IO[bytes], pieces: Iterator[FetchedPart]) -> None:
+        writer = CopyWriter(self.index, file.write)
         if not self.index.revisions:
             properties = self._svn.properties(self._now.root, 0)
             writer.begin(self._now.uuid)
@@ -129,7 +129,7 @@ class Fetch:
         if self.error is None and len(self.index.revisions) <= self._now.youngest:
             raise Failed(f"svn printed no log of r{len(self.index.revisions)}")
 
-    def _write_piece(self, writer: Writer, piece: Piece) -> None:
+    def _write_piece(self, writer: CopyWriter, piece: FetchedPart) -> None:
         values = iter(piece.values)
         for revision in piece.revisions:
             if revision.number != len(self.index.revisions):

@@ -11,7 +11,7 @@ from svnask.errors import Failed
 from svnask.paths import Place, is_at_or_below, parent_of, tops_of
 from svnask.sources.commands import bytes_of
 from svnask.sources.subversion import Properties, Subversion
-from svnask.sources.values import Wanted
+from svnask.sources.values import WantedValues
 
 ADDED = ("A", "R")
 # So many values in a new folder are asked for at once.
@@ -56,7 +56,7 @@ class LoggedRevision(NamedTuple):
         """Return the records, given the values of the wanted paths."""
         return [record for path in self.paths for record in path.records(values)]
 
-    def wanted(self) -> Iterator[Wanted]:
+    def wanted(self) -> Iterator[WantedValues]:
         """Yield the paths whose values of mergeinfo the log does not have. In a new folder svn looks at all at once."""
         at = 0
         while at < len(self.paths):
@@ -66,7 +66,7 @@ class LoggedRevision(NamedTuple):
                 at += 1
             paths = [each.path for each in self.paths[begin:at] if each.may_have_properties]
             if paths:
-                yield Wanted(self.number, paths, top.path if len(paths) >= MANY else None)
+                yield WantedValues(self.number, paths, top.path if len(paths) >= MANY else None)
 
 
 def logged_path(element: xml.Element) -> LoggedPath:

@@ -10,7 +10,7 @@ from typing import NamedTuple
 
 from svnask.errors import Failed, Unreached
 from svnask.paths import joined
-from svnask.sources.commands import bytes_of, elements, output_of, parsed, property_value, without_peg
+from svnask.sources.commands import bytes_of, element_of, elements, output_of, property_value, without_peg
 from svnask.sources.urls import ancestors, canonical, target
 
 # That the lines of a value end in several ways, and that a date can't be read.
@@ -100,7 +100,7 @@ class Subversion(NamedTuple):
         words = ("svn", "proplist", "--revprop", "--xml", "-r", str(rev), *options, *self.words, root)
         with output_of(*words) as stream:
             text = stream.read()
-        return {bytes_of(each.attrib["name"]): property_value(each) for each in parsed(text).iter("property")}
+        return {bytes_of(each.attrib["name"]): property_value(each) for each in element_of(text).iter("property")}
 
     def _property(self, root: str, rev: int, name: bytes) -> bytes:
         """Return one property of a revision as it is."""

@@ -23,7 +23,7 @@ WITHOUT_VALUE = "W200017: "
 LACKING = re.compile(rf"^svn: warning: {WITHOUT_VALUE}.* not found on '(.*)'$", re.MULTILINE)
 
 
-class Wanted(NamedTuple):
+class WantedValues(NamedTuple):
     """Paths of a revision whose values are wanted. All of them may be in a folder that is new there."""
 
     rev: int
@@ -83,7 +83,7 @@ class OfTargets(Asked):
 class OfFolder(Asked):
     """Asks about all that is in a folder."""
 
-    def __init__(self, words: Sequence[str], root: str, wanted: Wanted) -> None:
+    def __init__(self, words: Sequence[str], root: str, wanted: WantedValues) -> None:
         super().__init__(("-R", *words), [target(root, wanted.folder or b"/", wanted.rev)])
         self._root, self._wanted = root, wanted
 
@@ -101,7 +101,7 @@ class OfFolder(Asked):
 class MergeinfoValues:
     """The values that paths of revisions have themselves, or None, in their order. They are asked for at once."""
 
-    def __init__(self, words: Sequence[str], root: str, wanted: Sequence[Wanted]) -> None:
+    def __init__(self, words: Sequence[str], root: str, wanted: Sequence[WantedValues]) -> None:
         self._words, self._root = words, root
         count = sum(len(each.paths) for each in wanted if each.folder is None)
         self._most = min(max(count // PROCESSES, FEWEST), MOST)
@@ -109,7 +109,7 @@ class MergeinfoValues:
         self._running: deque[Asked] = deque()
         self._start()
 
-    def _parts(self, wanted: Iterable[Wanted]) -> Iterator[Asked]:
+    def _parts(self, wanted: Iterable[WantedValues]) -> Iterator[Asked]:
         """Start a process for each folder, and one for as many other paths as a command takes."""
         part: list[str] = []
         length = 0
