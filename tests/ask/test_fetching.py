@@ -161,6 +161,19 @@ class Log(Case):
             for words in base.commands("log -v; propget -R trunk; check-mergeinfo; branches; heirs trunk@1"):
                 self.assertEqual(base.called(self.made_of, *words), base.called(dump, *words), words)
 
+    def test_records_and_bytes_are_those_of_dumps(self) -> None:
+        for words in (["record", "1"], ["byte", "5"]):
+            done = base.called(self.made_of, *words)
+            self.assertEqual((done.status, done.output), (2, b""), words)
+            self.assertIn("are for a dump", done.said)
+
+    def test_two_runs_at_once_ask_for_one_log(self) -> None:
+        line = f'case "$*" in *" -v "*) echo >> {self.folder}/asked; sleep 1 ;; esac'
+        with grown.instead_of_log(self.folder, line):
+            runs = [subprocess.Popen(base.command(self.made_of, "update")) for _ in range(2)]
+            self.assertEqual([run.wait() for run in runs], [0, 0])
+        self.assertEqual((self.folder / "asked").read_text(), "\n")
+
     def test_a_property_that_is_set_to_the_value_that_it_has(self) -> None:
         for source in (str(self.made_of), self.made_of.as_uri()):
             done = base.called(source, "log", "-q", "trunk")
