@@ -85,12 +85,12 @@ class Grown:
 
 
 @contextlib.contextmanager
-def instead_of_log(folder: Path, line: str) -> Iterator[None]:
-    """Run a line of the shell in place of svn where that is asked for a log."""
+def instead_of(folder: Path, verb: str, line: str) -> Iterator[None]:
+    """Run a line of the shell in place of svn, or before it, where that is called with a verb."""
     programs = folder / "programs"
     programs.mkdir(exist_ok=True)
     path = programs / "svn"
-    path.write_text(f'#!/bin/sh\nif [ "$1" = log ]; then {line}; fi\nPATH={os.environ["PATH"]} exec svn "$@"\n')
+    path.write_text(f'#!/bin/sh\nif [ "$1" = {verb} ]; then {line}; fi\nPATH={os.environ["PATH"]} exec svn "$@"\n')
     path.chmod(0o700)
     with mock.patch.dict(os.environ, PATH=f"{programs}:{os.environ['PATH']}"):
         yield

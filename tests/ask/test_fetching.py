@@ -157,9 +157,20 @@ class Log(Case):
     def test_a_server_that_says_no_kinds_and_no_changes_of_properties(self) -> None:
         line = 'PATH=/usr/bin:/bin; svn "$@" | sed "s/ *\\(kind\\|prop-mods\\|text-mods\\)=\\"[a-z]*\\"//"; exit'
         dump = self.made("dump", grown.svn("svnadmin", "dump", "-q", self.made_of).output)
-        with grown.instead_of_log(self.folder, line):
+        with grown.instead_of(self.folder, "log", line):
             for words in base.commands("log -v; propget -R trunk; check-mergeinfo; branches; heirs trunk@1"):
                 self.assertEqual(base.called(self.made_of, *words), base.called(dump, *words), words)
+
+    def test_calls_that_fail_at_once_are_made_alone(self) -> None:
+        line = 'case "$*" in *--non-interactive*) echo "svn: E215004: No more credentials" >&2; exit 1 ;; esac'
+        with grown.instead_of(self.folder, "propget", line):
+            self.assertEqual(base.called(self.made_of, "update").status, 0)
+        self.check(self.made_of, str(self.made_of))
+
+    def test_a_call_that_fails_alone_is_told(self) -> None:
+        with grown.instead_of(self.folder, "propget", 'echo "svn: E170013: no luck" >&2; exit 1'):
+            done = base.called(self.made_of, "log")
+        self.assertEqual((done.status, done.output, done.said[:23]), (1, b"", "svnask: E170013: no luc"))
 
     def test_records_and_bytes_are_those_of_dumps(self) -> None:
         for words in (["record", "1"], ["byte", "5"]):
@@ -169,7 +180,7 @@ class Log(Case):
 
     def test_two_runs_at_once_ask_for_one_log(self) -> None:
         line = f'case "$*" in *" -v "*) echo >> {self.folder}/asked; sleep 1 ;; esac'
-        with grown.instead_of_log(self.folder, line):
+        with grown.instead_of(self.folder, "log", line):
             runs = [subprocess.Popen(base.command(self.made_of, "update")) for _ in range(2)]
             self.assertEqual([run.wait() for run in runs], [0, 0])
         self.assertEqual((self.folder / "asked").read_text(), "\n")

@@ -299,7 +299,7 @@ class Cut(Case):
             whole = log[:at].count(b"</logentry>")
             half = self.made("half", log[:at])
             base.called(made.folder, "forget")
-            with grown.instead_of_log(self.folder, f'cat {half}; echo "svn: E000005: no luck" >&2; exit 1'):
+            with grown.instead_of(self.folder, "log", f'cat {half}; echo "svn: E000005: no luck" >&2; exit 1'):
                 done = base.called(made.folder, "info")
                 self.assertEqual((done.status, done.output), (1, b""), done)
                 self.assertTrue(done.said.startswith("svnask: E000005: no luck\n"), done)

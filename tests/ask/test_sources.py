@@ -171,7 +171,9 @@ class Failing(Case):
 
     def test_no_command_is_left_over(self) -> None:
         made = self.repository()
-        with base.signals_end(), grown.instead_of_log(self.folder, f"echo $$ > {self.folder}/number; exec sleep 600"):
+        with base.signals_end(), grown.instead_of(
+            self.folder, "log", f"echo $$ > {self.folder}/number; exec sleep 600"
+        ):
             child = subprocess.Popen(base.command(made.folder, "info"))
         number = self.folder / "number"
         base.wait_for(lambda: number.exists() and number.read_text())
@@ -246,7 +248,7 @@ class Served(Case):
         made = self.repository()
         log = grown.svn("svn", "log", "--xml", "-v", "--with-all-revprops", "-r", "1:HEAD", made.url).output
         faulty = self.made("faulty", log.replace(b">/trunk<", b">/other<", 1))
-        with grown.instead_of_log(self.folder, f"cat {faulty}; exit"):
+        with grown.instead_of(self.folder, "log", f"cat {faulty}; exit"):
             for source in made.sources:
                 for _ in range(2):
                     done = base.called(source, "log")

@@ -7,7 +7,6 @@ from abc import ABC, abstractmethod
 from collections import deque
 from collections.abc import Iterable, Iterator, Sequence
 from contextlib import closing
-from itertools import chain
 from typing import NamedTuple
 from urllib.parse import unquote_to_bytes as unquote
 
@@ -18,9 +17,11 @@ from svnask.sources.urls import canonical, path_below, target
 
 # How many processes ask at once, how many targets each of them has, and how long its words are together.
 PROCESSES, FEWEST, MOST, LONGEST = 8, 64, 500, 100000
-# How svn says that a target has no value.
-WITHOUT_VALUE = "W200017: "
-LACKING = re.compile(rf"^svn: warning: {WITHOUT_VALUE}.* not found on '(.*)'$", re.MULTILINE)
+# The options that say whether svn may ask the user.
+ASKING = {"--non-interactive", "--force-interactive"}
+# How svn says that a target has no value, and the codes of errors then.
+LACKING = re.compile(r"^svn: warning: W200017: .* not found on '(.*)'$", re.MULTILINE)
+CODE, WITHOUT_VALUE = re.compile("^svn: (?:warning: )?([EW][0-9]{6}): ", re.MULTILINE), {"W200017", "E200000"}
 
 
 class WantedValues(NamedTuple):
@@ -32,65 +33,78 @@ class WantedValues(NamedTuple):
 
 
 class Asked(ABC):
-    """A process of svn that is asked for values."""
+    """A process of svn that is asked for values. It asks the user nothing, since several run at once."""
 
-    def __init__(self, words: Sequence[str], targets: Sequence[str]) -> None:
+    def __init__(self, words: Sequence[str], targets: Sequence[str], is_alone: bool = False) -> None:
+        self._words, self._targets, self._is_alone = words, targets, is_alone
+        own = () if is_alone or set(words) & ASKING else ("--non-interactive",)
         self._output = tempfile.TemporaryFile()
-        self._command = Command(("svn", "propget", MERGEINFO.decode(), "--xml", *words, *targets), self._output)
+        self._command = Command(("svn", "propget", MERGEINFO.decode(), "--xml", *own, *words, *targets), self._output)
 
     def close(self) -> None:
         self._command.close()
         self._output.close()
 
     @abstractmethod
+    def alone(self) -> Asked:
+        """Ask the same once more."""
+
+    @abstractmethod
+    def found(self) -> Iterator[bytes | None]:
+        """Yield the values that svn printed."""
+
     def values(self) -> Iterator[bytes | None]:
-        """Yield the values in the order in which they are wanted."""
+        """Yield the values in the order in which they are wanted. What failed is asked for once more, by a process that
+        may ask for a password, as svn does by itself."""
+        status = self._command.process.wait()
+        said = set(CODE.findall(self._command.said()))
+        if not status or said and said <= WITHOUT_VALUE:
+            self._output.seek(0)
+            yield from self.found()
+        elif self._is_alone:
+            raise self._command.failure()
+        else:
+            with closing(self.alone()) as again:
+                yield from again.values()
 
 
 class OfTargets(Asked):
     """Asks about paths of any revisions."""
 
-    def __init__(self, words: Sequence[str], targets: Sequence[str]) -> None:
-        super().__init__(words, targets)
-        self._words, self._targets = words, targets
+    def alone(self) -> Asked:
+        return OfTargets(self._words, self._targets, is_alone=True)
 
-    def values(self) -> Iterator[bytes | None]:
+    def found(self) -> Iterator[bytes | None]:
         """Yield the value of each target. svn prints those that there are in order, and warns of others."""
-        status = self._command.process.wait()
-        lacking = set(map(unquote, LACKING.findall(self._command.said()))) if status else set()
+        lacking = set(map(unquote, LACKING.findall(self._command.said())))
         has_value = [unquote(each) not in lacking for each in self._targets]
-        if sum(has_value) == self._count():
-            self._output.seek(0)
-            found = chain.from_iterable(each.iterfind("property") for each in elements(self._output, "target"))
-            yield from (property_value(next(found)) if has else None for has in has_value)
-        elif not lacking:
-            error = self._command.failure()
-            raise Failed("cannot write what svn prints") if str(error).startswith(WITHOUT_VALUE) else error
-        elif len(self._targets) == 1:
-            yield None
-        else:
+        is_whole = sum(has_value) == sum(line == b"<target\n" for line in self._output)
+        self._output.seek(0)
+        if is_whole:
+            left = (property_value(each[0]) for each in elements(self._output, "target"))
+            yield from (next(left) if has else None for has in has_value)
+        elif len(self._targets) > 1:
             # A warning names a target in another way.
             for each in self._targets:
                 with closing(OfTargets(self._words, [each])) as one:
                     yield from one.values()
-
-    def _count(self) -> int:
-        """Return how many values were printed."""
-        self._output.seek(0)
-        return sum(line == b"<target\n" for line in self._output)
+        elif lacking:
+            yield None
+        else:
+            raise Failed("what svn prints cannot be written")
 
 
 class OfFolder(Asked):
     """Asks about all that is in a folder."""
 
-    def __init__(self, words: Sequence[str], root: str, wanted: WantedValues) -> None:
-        super().__init__(("-R", *words), [target(root, wanted.folder or b"/", wanted.rev)])
+    def __init__(self, words: Sequence[str], root: str, wanted: WantedValues, is_alone: bool = False) -> None:
+        super().__init__(("-R", *words), [target(root, wanted.folder or b"/", wanted.rev)], is_alone)
         self._root, self._wanted = root, wanted
 
-    def values(self) -> Iterator[bytes | None]:
-        if self._command.process.wait():
-            raise self._command.failure()
-        self._output.seek(0)
+    def alone(self) -> Asked:
+        return OfFolder(self._words[1:], self._root, self._wanted, is_alone=True)
+
+    def found(self) -> Iterator[bytes | None]:
         found = {
             path_below(canonical(each.attrib["path"]), self._root): property_value(each[0])
             for each in elements(self._output, "target")
