@@ -32,6 +32,7 @@ module _ {old mid : Stream} {taken : List ℕ} (first : AreTaken old mid taken) 
   pub IsReadUpTo-more : {after : PullState} {more : List ℕ} → IsReadUpTo mid after more → IsReadUpTo old after (taken ++ more)
   IsReadUpTo-more {after} {more} next = record {
     bytes = Consumes-trans old.come mid.come after.left taken more first.bytes next.bytes;
+    once = omega (arith, next.once, first.ends, first.failures);
     ends = omega (arith, next.ends, first.ends);
     failures = omega (arith, next.failures, first.failures);
   }

@@ -63,5 +63,6 @@ module _ (old : Stream) where
   -- these bytes were read; no more than one call came to the end or failed
   pub record IsReadUpTo (after : PullState) (rest : List ℕ) : Type 0 where
     pub bytes : Consumes old.come after.left rest
+    pub once : after.ends + after.failures ≤ old.ends + old.failures + 1
     pub ends : after.ends ≤ old.ends + 1
     pub failures : after.failures ≤ old.failures + 1

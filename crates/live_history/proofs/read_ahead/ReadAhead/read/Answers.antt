@@ -10,7 +10,7 @@ returns-then-self-eq0-clause-error g c =
     let input = g.I.Pull.state c.args.input.now in
     record {
       rest = c.args.self.now.unread;
-      read = record { bytes = Consumes-unread c.args.self.now.unread input.left; ends = omega arith; failures = omega arith };
+      read = record { bytes = Consumes-unread c.args.self.now.unread input.left; once = omega arith; ends = omega arith; failures = omega arith };
       why = inl (record {
         is = refl;
         all = refl;
@@ -24,7 +24,7 @@ returns-in_err-forget-clause-error g c =
     let told = err_from_is_err_and c.from_residual.result c.from_residual.ensures.1 in
     rw (told.1, told.2) (record {
       rest = c.args.self.now.unread;
-      read = record { bytes = Consumes-unread c.args.self.now.unread input.left; ends = omega arith; failures = omega arith };
+      read = record { bytes = Consumes-unread c.args.self.now.unread input.left; once = omega arith; ends = omega arith; failures = omega arith };
       why = inr refl;
     })
 
@@ -36,6 +36,7 @@ returns-in-Err-clause-error g c =
       rest = c.args.self.now.unread;
       read = record {
         bytes = Consumes-unread-kept c.args.self.now.unread input.left after.left c.in-Err.ensures.bytes;
+        once = omega (arith, c.in-Err.ensures.ends, c.in-Err.ensures.failures);
         ends = omega (arith, c.in-Err.ensures.ends);
         failures = omega (arith, c.in-Err.ensures.failures);
       };
@@ -55,6 +56,7 @@ returns-in_err-extend_from_slice-in-Ok-clause-error g c =
       rest = c.args.self.now.unread ++ take c.in-Ok.count c.pull.new.slice;
       read = record {
         bytes = Consumes-unread-more c.args.self.now.unread (take c.in-Ok.count c.pull.new.slice) input.left after.left c.in-Ok.ensures.bytes.0;
+        once = omega (arith, c.in-Ok.ensures.ends, c.in-Ok.ensures.failures, one_at_most (c.in-Ok.count == 0));
         ends = omega (arith, c.in-Ok.ensures.ends, one_at_most (c.in-Ok.count == 0));
         failures = omega (arith, c.in-Ok.ensures.failures);
       };
