@@ -116,7 +116,7 @@ class SubversionSource(Source):
                 fetch.write(file)
                 if fetch.error is not None and not fetch.index.revisions:
                     raise fetch.error
-            return extended(entry, fetch.committed(entry, kept), fetch)
+            return entry.joined(extended(entry, fetch.committed(entry, kept), fetch))
 
     def copied(self, file: IO[bytes], kept: Kept, progress: Progress) -> Index:
         with self._fetch(Index(kept), progress) as fetch:
