@@ -3,6 +3,7 @@ from __future__ import annotations
 
 import os
 import subprocess
+import time
 from pathlib import Path
 from unittest import mock
 
@@ -177,6 +178,8 @@ class Failing(Case):
             child = subprocess.Popen(base.command(made.folder, "info"))
         number = self.folder / "number"
         base.wait_for(lambda: number.exists() and number.read_text())
+        # Python may be on its way out of the call that started it.
+        time.sleep(0.5)
         child.terminate()
         child.wait()
         base.wait_for(lambda: not Path(f"/proc/{number.read_text().strip()}").exists())
