@@ -35,6 +35,12 @@ IfPiece next.Query P = ⊤
 IfPiece (next.Piece size) P = P
 IfPiece next.End P = ⊤
 
+-- what holds where anything comes next
+abbrev pub IfTurn : Next → Type 0 → Type 0
+IfTurn next.Query P = P
+IfTurn (next.Piece size) P = P
+IfTurn next.End P = ⊤
+
 -- these are the first queries, and then this follows
 pub record AreQueries (bytes : List ℕ) (lines : List (List ℕ)) (rest : List ℕ) : Type 0 where
   pub whole : bytes ≡ flat_map line_text lines ++ rest

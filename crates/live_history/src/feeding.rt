@@ -1,10 +1,12 @@
 //! Bytes of an input that come to the reader of a dump.
-ghost use Rattle.std.specs.Prelude.{◌≡◌, ◌+◌, ◌^◌, ◌<◌, ◌≤◌, ℕ, List, None, length, IfErr, OnOk};
+ghost use Rattle.std.specs.Prelude.{◌≡◌, ◌+◌, ◌^◌, ◌<◌, ◌≤◌, ℕ, List, None, length, IfErr, IsErrOf, OnOk};
 ghost use Rattle.svn_dump.specs.Feed.{HasRead};
 ghost use Rattle.svn_report.specs.ReportFrom.{most_bytes};
+ghost use Rattle.svn_report.specs.declared.run_error.RunError.TheVariants.{Memory};
 ghost use Rattle.live_history.specs.History.{IsFed};
 ghost use Rattle.live_history.specs.PieceEnd.{IsPieceEnd};
 ghost use Rattle.live_history.specs.ReadAhead.{room, stream};
+ghost use Rattle.live_history.specs.declared.talk_error.TalkError.TheVariants.{Run};
 
 use crate::read_ahead::ReadAhead;
 use crate::talk_error::TalkError;
@@ -28,6 +30,10 @@ pub(crate) fn feed_piece<I: Pull>(
     ensures near { OnOk result (length ahead.new.unread ≤ most_bytes) }
     ensures error { IfErr result (λ e. (before : List ℕ) → HasRead feed.old before
         → IsPieceEnd before size (stream ahead.old (I.state input.old)) (I.state input.new) e) }
+    ensures unfailed { OnOk result ((I.state input.new).failures ≡ (I.state input.old).failures) }
+    ensures unended { OnOk result ((I.state input.new).ends ≡ (I.state input.old).ends) }
+    ensures memory { IsErrOf result (Run Memory) → (I.state input.new).failures ≡ (I.state input.old).failures }
+    ensures open { IsErrOf result (Run Memory) → (I.state input.new).ends ≡ (I.state input.old).ends }
 {
     let mut left = size;
     'bytes: while left > 0 {

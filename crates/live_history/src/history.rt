@@ -20,17 +20,19 @@ pub(crate) struct History {
 }
 
 impl History {
-    ghost use Rattle.std.specs.Prelude.{◌≡◌, ◌+◌, ◌*◌, ◌^◌, ◌<◌, ◌≤◌, ℕ, List, length, IfErr, IfOk};
+    ghost use Rattle.std.specs.Prelude.{◌≡◌, ◌+◌, ◌*◌, ◌^◌, ◌<◌, ◌≤◌, ℕ, List, length, IfErr, IfOk, IsErrOf, OnOk};
     ghost use Rattle.query_pool.specs.Serving.{most_workers};
     ghost use Rattle.svn_dump.specs.Draft.{IsWholeHistory};
     ghost use Rattle.svn_dump.specs.Dump.{history_in_bytes};
     ghost use Rattle.svn_report.specs.Load.{most_reads};
     ghost use Rattle.svn_report.specs.ReportFrom.{most_bytes};
+    ghost use Rattle.svn_report.specs.declared.run_error.RunError.TheVariants.{Memory};
     ghost use Rattle.live_history.specs.History.{IsGrown, IsHistoryFrom, IsHistoryOf};
     ghost use Rattle.live_history.specs.PieceEnd.{IsPieceEnd};
     ghost use Rattle.live_history.specs.ReadAhead.{room, stream};
     ghost use Rattle.live_history.specs.Talk.{ready_text};
     ghost use Rattle.live_history.specs.TalkEnd.{IsNoHistory};
+    ghost use Rattle.live_history.specs.declared.talk_error.TalkError.TheVariants.{Run};
 
     /// The history of the dump that a device gives, read to its end.
     pub(crate) fn read<R: RandomSource + Threads + Wait + Sync, D: Pull>(
@@ -45,6 +47,8 @@ impl History {
         ensures whole { IfOk result (λ history. IsWholeHistory history.repo) }
         ensures few { IfOk result (λ history. history.paused.count ≤ most_reads * most_bytes) }
         ensures error { IfErr result (IsNoHistory (D.state dump.old) (D.state dump.new)) }
+        ensures unfailed { OnOk result ((D.state dump.new).failures ≡ (D.state dump.old).failures) }
+        ensures memory { IsErrOf result Memory → (D.state dump.new).failures ≡ (D.state dump.old).failures }
         ensures fails_once { (D.state dump.new).failures ≤ (D.state dump.old).failures + 1 }
     {
         let feed = feed_from(alloc, Seed::random(rt), dump)?;
@@ -76,6 +80,10 @@ impl History {
         ensures near { IfOk result (λ grown. length ahead.new.unread ≤ most_bytes) }
         ensures error { IfErr result (λ e. (before : List ℕ) → IsHistoryOf before self
             → IsPieceEnd before size (stream ahead.old (I.state input.old)) (I.state input.new) e) }
+        ensures unfailed { OnOk result ((I.state input.new).failures ≡ (I.state input.old).failures) }
+        ensures unended { OnOk result ((I.state input.new).ends ≡ (I.state input.old).ends) }
+        ensures memory { IsErrOf result (Run Memory) → (I.state input.new).failures ≡ (I.state input.old).failures }
+        ensures open { IsErrOf result (Run Memory) → (I.state input.new).ends ≡ (I.state input.old).ends }
     {
         let History { repo, paused } = self;
         let (dump, index, map, _) = repo.into_parts();

@@ -1,10 +1,12 @@
 //! Bytes of an input that were read before they are needed.
-ghost use Rattle.std.specs.Prelude.{◌≡◌, ◌+◌, ◌<◌, ◌≤◌, [], drop, length, IfErr, IfNone, IfOk, IfSome, IsFalse, IsTrue};
+ghost use Rattle.std.specs.Prelude.{◌≡◌, ◌+◌, ◌<◌, ◌≤◌, [], drop, length, IfErr, IfNone, IfOk, IfSome, IsErrOf, IsFalse, IsTrue, OnOk};
 ghost use Rattle.svn_text.specs.Cut.{Lacks};
 ghost use Rattle.svn_report.specs.Load.{most_reads};
 ghost use Rattle.svn_report.specs.ReportFrom.{most_bytes};
+ghost use Rattle.svn_report.specs.declared.run_error.RunError.TheVariants.{Memory};
 ghost use Rattle.live_history.specs.ReadAhead.{AreNear, HasLine, IsLineEnd, IsReadEnd, room, stream};
 ghost use Rattle.live_history.specs.Stream.{AreLast, AreTaken};
+ghost use Rattle.live_history.specs.declared.talk_error.TalkError.TheVariants.{Run};
 
 use crate::talk_error::TalkError;
 use devices::{Pull, Source};
@@ -96,6 +98,10 @@ impl ReadAhead {
         ensures less { IfOk result (λ _. room self.new < room self.old) }
         ensures error { IfErr result
             (λ e. IsReadEnd (stream self.old (I.state input.old)) (I.state input.new) e self.old.unread) }
+        ensures unfailed { OnOk result ((I.state input.new).failures ≡ (I.state input.old).failures) }
+        ensures unended { IfOk result (λ count. 0 < count → (I.state input.new).ends ≡ (I.state input.old).ends) }
+        ensures memory { IsErrOf result (Run Memory) → (I.state input.new).failures ≡ (I.state input.old).failures }
+        ensures open { IsErrOf result (Run Memory) → (I.state input.new).ends ≡ (I.state input.old).ends }
     {
         if self.reads == 0 {
             return Err(TalkError::Run(RunError::Read(Source::Input)));
@@ -105,6 +111,7 @@ impl ReadAhead {
         self.searched = self.unread().len();
         match input.pull(self.piece.as_mut_slice()) {
             Err(_) => Err(TalkError::Run(RunError::Read(Source::Input))),
+            Ok(0) => Ok(0),
             Ok(count) => {
                 self.bytes.extend_from_slice(&self.piece[..count])?;
                 Ok(count)
@@ -123,6 +130,10 @@ impl ReadAhead {
         ensures near { IfOk result (λ _. length self.old.unread ≤ most_bytes → length self.new.unread ≤ most_bytes) }
         ensures error { IfErr result
             (λ e. IsReadEnd (stream self.old (I.state input.old)) (I.state input.new) e []) }
+        ensures unfailed { OnOk result ((I.state input.new).failures ≡ (I.state input.old).failures) }
+        ensures unended { IfOk result (λ more. IsTrue more → (I.state input.new).ends ≡ (I.state input.old).ends) }
+        ensures memory { IsErrOf result (Run Memory) → (I.state input.new).failures ≡ (I.state input.old).failures }
+        ensures open { IsErrOf result (Run Memory) → (I.state input.new).ends ≡ (I.state input.old).ends }
     {
         if self.unread().is_empty() {
             Ok(self.read(input)? > 0)
@@ -152,6 +163,10 @@ impl ReadAhead {
             (AreLast (stream self.old (I.state input.old)) (I.state input.new) [])) }
         ensures room { IfOk result (λ found. room self.new ≤ room self.old) }
         ensures error { IfErr result (IsLineEnd (stream self.old (I.state input.old)) (I.state input.new)) }
+        ensures unfailed { OnOk result ((I.state input.new).failures ≡ (I.state input.old).failures) }
+        ensures unended { IfOk result (λ found. IfSome found (λ _. (I.state input.new).ends ≡ (I.state input.old).ends)) }
+        ensures memory { IsErrOf result (Run Memory) → (I.state input.new).failures ≡ (I.state input.old).failures }
+        ensures open { IsErrOf result (Run Memory) → (I.state input.new).ends ≡ (I.state input.old).ends }
     {
         'reads: loop {
             if let Some(len) = self.line() {

@@ -1,5 +1,5 @@
 //! Replies to queries.
-ghost use Rattle.std.specs.Prelude.{◌≡◌, ◌+◌, ◌^◌, ◌<◌, ◌≤◌, length, IfErr, IfOk, IfSome, IsFalse, IsTrue, OnOk};
+ghost use Rattle.std.specs.Prelude.{◌≡◌, ◌+◌, ◌^◌, ◌<◌, ◌≤◌, length, IfErr, IfOk, IfSome, IsErrOf, IsFalse, IsTrue, OnOk};
 ghost use Rattle.devices.specs.Device.{PullState};
 ghost use Rattle.std.specs.List.{flat_map};
 ghost use Rattle.query_pool.specs.Serving.{most_workers};
@@ -8,11 +8,13 @@ ghost use Rattle.svn_dump.specs.Dump.{history_in_bytes};
 ghost use Rattle.svn_report.specs.Answering.{lent_lines};
 ghost use Rattle.svn_report.specs.Report.{most_queries};
 ghost use Rattle.svn_report.specs.ReportFrom.{most_bytes};
+ghost use Rattle.svn_report.specs.declared.run_error.RunError.TheVariants.{Memory};
 ghost use Rattle.live_history.specs.ReadAhead.{AreNear, room, stream};
 ghost use Rattle.live_history.specs.Replies.{AreRepliedTo, IsUpToNext, KeepsOutput, replies};
 ghost use Rattle.live_history.specs.Talk.{IsLawfulDump, TalkState};
 ghost use Rattle.live_history.specs.TalkEnd.{IsEndEarly, most_answered};
 ghost use Rattle.live_history.specs.Turns.{HasQuery};
+ghost use Rattle.live_history.specs.declared.talk_error.TalkError.TheVariants.{Run};
 
 use crate::read_ahead::ReadAhead;
 use crate::talk_error::TalkError;
@@ -58,6 +60,10 @@ pub(crate) fn reply_up_to_piece<R: Threads + Wait + Sync, I: Pull, O: Push>(
         → IsEndEarly state (stream ahead.old (I.state input.old)) (O.state output.old).gone
         (I.state input.new) (O.state output.new) e) }
     ensures kept { IfErr result (KeepsOutput (O.state output.old) (O.state output.new)) }
+    ensures unfailed { OnOk result ((I.state input.new).failures ≡ (I.state input.old).failures) }
+    ensures unended { IfOk result (λ next. IfSome next (λ _. (I.state input.new).ends ≡ (I.state input.old).ends)) }
+    ensures memory { IsErrOf result (Run Memory) → (I.state input.new).failures ≡ (I.state input.old).failures }
+    ensures open { IsErrOf result (Run Memory) → (I.state input.new).ends ≡ (I.state input.old).ends }
 {
     let memo = repo.memo(alloc)?;
     'turns: loop {

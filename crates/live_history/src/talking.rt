@@ -1,15 +1,17 @@
 //! A talk about the history of a dump.
-ghost use Rattle.std.specs.Prelude.{◌≡◌, ◌+◌, ◌^◌, ◌<◌, ◌≤◌, IfErr, IfNone, IfOk, IfSome, IsFalse, IsTrue, OnOk};
+ghost use Rattle.std.specs.Prelude.{◌≡◌, ◌+◌, ◌^◌, ◌<◌, ◌≤◌, IfErr, IfNone, IfOk, IfSome, IsErrOf, IsFalse, IsTrue, OnOk};
 ghost use Rattle.std.specs.Io.KnownBytes.{Appends};
 ghost use Rattle.query_pool.specs.Serving.{most_workers};
 ghost use Rattle.svn_dump.specs.Draft.{IsWholeHistory};
 ghost use Rattle.svn_dump.specs.Dump.{history_in_bytes};
+ghost use Rattle.svn_report.specs.declared.run_error.RunError.TheVariants.{Memory};
 ghost use Rattle.live_history.specs.History.{IsHistoryOf};
 ghost use Rattle.live_history.specs.ReadAhead.{room, stream};
 ghost use Rattle.live_history.specs.Replies.{KeepsOutput};
 ghost use Rattle.live_history.specs.Talk.{TalkState, ready_text};
 ghost use Rattle.live_history.specs.TalkEnd.{AreAllReplied, IsEndEarly, IsTalkError, IsWholeTalk, most_answered};
 ghost use Rattle.live_history.specs.Talking.{IsAfterPiece, IsUnsaid};
+ghost use Rattle.live_history.specs.declared.talk_error.TalkError.TheVariants.{Run};
 
 use crate::history::History;
 use crate::read_ahead::ReadAhead;
@@ -43,6 +45,12 @@ pub fn talk<R: RandomSource + Threads + Wait + Sync, D: Pull, I: Pull, O: Push>(
         (I.state input.new) (O.state output.old) (O.state output.new)) }
     ensures error { IfErr result (IsTalkError (D.state dump.old) (D.state dump.new) (I.state input.old)
         (I.state input.new) (O.state output.old) (O.state output.new)) }
+
+    // Want of memory takes the place of no other reason.
+    ensures memory_dump { IsErrOf result (Run Memory) → (D.state dump.new).failures ≡ (D.state dump.old).failures }
+    ensures memory { IsErrOf result (Run Memory) → (I.state input.new).failures ≡ (I.state input.old).failures }
+    ensures open { IsErrOf result (Run Memory) → (I.state input.new).ends ≡ (I.state input.old).ends }
+
     ensures fails_once { (D.state dump.new).failures ≤ (D.state dump.old).failures + 1 }
 {
     let mut ahead = ReadAhead::new(alloc)?;
@@ -94,6 +102,8 @@ fn take_turns<R: Threads + Wait + Sync, I: Pull, O: Push>(
         → IsEndEarly state (stream ahead.old (I.state input.old)) (O.state output.old).gone (I.state input.new)
         (O.state output.new) e) }
     ensures kept { IfErr result (KeepsOutput (O.state output.old) (O.state output.new)) }
+    ensures memory { IsErrOf result (Run Memory) → (I.state input.new).failures ≡ (I.state input.old).failures }
+    ensures open { IsErrOf result (Run Memory) → (I.state input.new).ends ≡ (I.state input.old).ends }
 {
     let mut history = history;
     let mut answered = 0;
@@ -150,6 +160,10 @@ fn take_piece<R: Threads + Wait + Sync, I: Pull, O: Push>(
         → IsEndEarly state (stream ahead.old (I.state input.old)) (O.state output.old).gone (I.state input.new)
         (O.state output.new) e) }
     ensures kept { IfErr result (KeepsOutput (O.state output.old) (O.state output.new)) }
+    ensures unfailed { OnOk result ((I.state input.new).failures ≡ (I.state input.old).failures) }
+    ensures unended { IfOk result (λ next. IfSome next (λ _. (I.state input.new).ends ≡ (I.state input.old).ends)) }
+    ensures memory { IsErrOf result (Run Memory) → (I.state input.new).failures ≡ (I.state input.old).failures }
+    ensures open { IsErrOf result (Run Memory) → (I.state input.new).ends ≡ (I.state input.old).ends }
 {
     match reply_up_to_piece(
         rt,

@@ -1,10 +1,12 @@
 //! The turns of a talk in its input.
-ghost use Rattle.std.specs.Prelude.{◌<◌, ◌≤◌, ℕ, length, IfErr, IfNone, IfOk, IfSome};
+ghost use Rattle.std.specs.Prelude.{◌≡◌, ◌<◌, ◌≤◌, ℕ, length, IfErr, IfNone, IfOk, IfSome, IsErrOf, OnOk};
 ghost use Rattle.svn_report.specs.Answering.{lent_lines};
 ghost use Rattle.svn_report.specs.ReportFrom.{most_bytes};
+ghost use Rattle.svn_report.specs.declared.run_error.RunError.TheVariants.{Memory};
 ghost use Rattle.live_history.specs.ReadAhead.{IsLineEnd, room, stream};
 ghost use Rattle.live_history.specs.Turn.{IsPieceLine};
-ghost use Rattle.live_history.specs.Turns.{AreQueries, HasQuery, IfPiece, IsFirstQuery, IsNext};
+ghost use Rattle.live_history.specs.Turns.{AreQueries, HasQuery, IfPiece, IfTurn, IsFirstQuery, IsNext};
+ghost use Rattle.live_history.specs.declared.talk_error.TalkError.TheVariants.{Run};
 
 use crate::read_ahead::ReadAhead;
 use crate::talk_error::TalkError;
@@ -32,6 +34,10 @@ pub(crate) fn read_next<I: Pull>(ahead: &mut ReadAhead, input: &mut I) -> Result
     ensures less { IfOk result (λ next. IfPiece next (room ahead.new < room ahead.old)) }
     ensures near { IfOk result (λ next. IfPiece next (length ahead.new.unread ≤ most_bytes)) }
     ensures error { IfErr result (IsLineEnd (stream ahead.old (I.state input.old)) (I.state input.new)) }
+    ensures unfailed { OnOk result ((I.state input.new).failures ≡ (I.state input.old).failures) }
+    ensures unended { IfOk result (λ next. IfTurn next ((I.state input.new).ends ≡ (I.state input.old).ends)) }
+    ensures memory { IsErrOf result (Run Memory) → (I.state input.new).failures ≡ (I.state input.old).failures }
+    ensures open { IsErrOf result (Run Memory) → (I.state input.new).ends ≡ (I.state input.old).ends }
 {
     let Some(len) = ahead.read_line(input)? else {
         return Ok(Next::End);

@@ -1,4 +1,4 @@
-use Rattle.std.proofs.Common.{◌≡◌, ◌-◌, ◌≤◌, ◌++◌, length, take, refl, sym, ap, subst, arith, length-drop}
+use Rattle.std.proofs.Common.{◌≡◌, ◌-◌, ◌≤◌, ◌++◌, length, take, refl, sym, ap, subst, ◌∙◌, arith, length-drop}
 use Rattle.std.proofs.lemmas.List.{length-take-le}
 use Rattle.std.proofs.lemmas.Result.{err_from_is_err_and}
 use Rattle.svn_dump.specs.Decided.{IsDecidedError}
@@ -15,6 +15,8 @@ bytes-init g c = record {
   few = omega arith;
   less = omega arith;
   near = c.requires.near;
+  unfailed = refl;
+  unended = refl;
 }
 
 pub returns-in_err-read_some-clause-error : goal.returns-in_err-read_some-clause-error
@@ -57,6 +59,8 @@ bytes-preserved g c =
       few = omega (arith, c.bytes.invariant.few, c.in_ok-feed.ensures.count, long, left, length-drop count ahead.unread, c.take.ensures.reads, c.in_ok-read_some.ensures.room, inside, ap length c.unread-in-bytes.ensures);
       less = omega (arith, c.bytes.invariant.less, left, length-drop count ahead.unread, c.take.ensures.reads, c.in_ok-read_some.ensures.room);
       near = omega (arith, left, length-drop count ahead.unread, c.in_ok-read_some.ensures.near c.bytes.invariant.near);
+      unfailed = c.in_ok-read_some.ensures.unfailed ∙ c.bytes.invariant.unfailed;
+      unended = c.in_ok-read_some.ensures.unended c.if-not-branch.false ∙ c.bytes.invariant.unended;
     }
 
 pub returns-clause-ok : goal.returns-clause-ok

@@ -1,4 +1,4 @@
-use Rattle.std.proofs.Common.{◌+◌, ◌-◌, ◌≤◌, length}
+use Rattle.std.proofs.Common.{◌≡◌, ◌+◌, ◌-◌, ◌≤◌, length}
 use Rattle.svn_report.specs.ReportFrom.{most_bytes}
 use Rattle.live_history.specs.History.{IsFed}
 use Rattle.live_history.specs.ReadAhead.{room, stream}
@@ -11,6 +11,8 @@ invariant-bytes g l = record {
   few : l.feed.count + room l.ahead ≤ l.fn.feed.count + room l.fn.ahead;
   less : room l.ahead ≤ room l.fn.ahead;
   near : length l.ahead.unread ≤ most_bytes;
+  unfailed : (g.I.Pull.state l.input).failures ≡ (g.I.Pull.state l.fn.input).failures;
+  unended : (g.I.Pull.state l.input).ends ≡ (g.I.Pull.state l.fn.input).ends;
 }
 
 abbrev pub decreases-bytes : goal.decreases-bytes

@@ -1,7 +1,7 @@
-use Rattle.std.proofs.Common.{refl, subst, arith}
+use Rattle.std.proofs.Common.{◌≡◌, refl, subst, ◌∙◌, arith}
 use Rattle.std.proofs.lemmas.Result.{err_from_is_err_and}
 use Rattle.live_history.specs.ReadAhead.{stream}
-use Rattle.live_history.specs.Turns.{IsNext}
+use Rattle.live_history.specs.Turns.{IfTurn, IsNext}
 use Rattle.live_history.proofs.Ends.{IsOutputKept-sound}
 use Rattle.live_history.proofs.Queries.{AreAllReplied-then, AreRepliedTo-more, AreRepliedTo-none, AreRepliedTo-read, IsEndEarly-line, IsEndEarly-memory, IsEndEarly-then}
 use Rattle.live_history.proofs.replies.reply_up_to_piece.Goals as goal
@@ -18,6 +18,8 @@ turns-init g c = record {
   sound = λ is. is;
   few = c.requires.few_answered;
   less = omega arith;
+  unfailed = refl;
+  unended = refl;
 }
 
 pub returns-in_err-read_next-clause-error : goal.returns-in_err-read_next-clause-error
@@ -36,6 +38,8 @@ turns-preserved g c =
       sound = λ is. replied.sound;
       few = replied.few;
       less = omega (arith, replied.less, c.in_ok-read_next.ensures.room, c.turns.invariant.less);
+      unfailed = c.in_ok-read_next.ensures.unfailed ∙ c.turns.invariant.unfailed;
+      unended = subst (λ turn. IfTurn turn (input.ends ≡ (g.I.Pull.state c.turns.input).ends)) c.in-Query.is c.in_ok-read_next.ensures.unended ∙ c.turns.invariant.unended;
     }
 
 pub returns-in_err-reply_to_queries-in-Query-clause-error : goal.returns-in_err-reply_to_queries-in-Query-clause-error

@@ -15,6 +15,8 @@ invariant-turns g l = record {
   sound : IsFalse (g.O.Push.state l.fn.output).has_failed → IsFalse (g.O.Push.state l.output).has_failed;
   few : l.answered ≤ most_answered;
   less : room l.ahead ≤ room l.fn.ahead;
+  unfailed : (g.I.Pull.state l.input).failures ≡ (g.I.Pull.state l.fn.input).failures;
+  unended : (g.I.Pull.state l.input).ends ≡ (g.I.Pull.state l.fn.input).ends;
 }
 
 abbrev pub decreases-turns : goal.decreases-turns

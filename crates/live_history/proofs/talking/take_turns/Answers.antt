@@ -1,4 +1,4 @@
-use Rattle.std.proofs.Common.{◌≡◌, ◌≤◌, ◌+◌, None, Option, Some, refl, subst, arith}
+use Rattle.std.proofs.Common.{◌≡◌, ◌≤◌, ◌+◌, None, Option, Some, refl, subst, ◌∙◌, arith}
 use Rattle.std.specs.Prelude.{IfNone, IfSome}
 use Rattle.std.proofs.lemmas.Result.{err_from_is_err_and}
 use Rattle.svn_dump.specs.Draft.{IsWholeHistory}
@@ -26,6 +26,8 @@ pieces-init g c = record {
   few_answered = omega arith;
   flushed = λ is. is;
   sound = λ is. is;
+  unfailed = refl;
+  unended = refl;
 }
 
 pub returns-in_err-grown-clause-error : goal.returns-in_err-grown-clause-error
@@ -57,6 +59,8 @@ pieces-preserved g c =
       few_answered = found.few_answered;
       flushed = λ is. found.flushed (c.pieces.invariant.flushed is);
       sound = λ is. found.sound (c.pieces.invariant.sound is);
+      unfailed = found.unfailed ∙ c.pieces.invariant.unfailed;
+      unended = subst (λ next. IfSome next (λ grown. (g.I.Pull.state c.take_piece.new.input).ends ≡ (g.I.Pull.state c.pieces.input).ends)) c.in-Some.is found.unended ∙ c.pieces.invariant.unended;
     }
 
 pub returns-clause-ok : goal.returns-clause-ok

@@ -15,6 +15,8 @@ invariant-pieces g l = record {
   whole : IsWholeHistory l.history.repo;
   few : l.history.paused.count + room l.ahead < 2 ^ 64;
   few_answered : l.answered ≤ most_answered;
+  unfailed : (g.I.Pull.state l.input).failures ≡ (g.I.Pull.state l.fn.input).failures;
+  unended : (g.I.Pull.state l.input).ends ≡ (g.I.Pull.state l.fn.input).ends;
   flushed : IsTrue (g.O.Push.state l.fn.output).is_flushed → IsTrue (g.O.Push.state l.output).is_flushed;
   sound : IsFalse (g.O.Push.state l.fn.output).has_failed → IsFalse (g.O.Push.state l.output).has_failed;
 }
