@@ -2,6 +2,7 @@
 from __future__ import annotations
 
 import contextlib
+import io
 import json
 import os
 import random
@@ -18,7 +19,7 @@ from dev.dumps import FILE, added, changed, copied, deleted, dump_of, mergeinfo,
 from dev.tree import ROOT
 from svnask import History, Record
 from svnask.copy.sections import Setting
-from svnask.sources import fetching, logged, values
+from svnask.sources import commands, fetching, logged, values
 from svnask.sources.access import Access
 from svnask.sources.opening import source_of
 from svnask.sources.progress import Progress
@@ -91,6 +92,25 @@ class Records(Case):
                 for module, each, value in [*small, (logged, "MANY", many)]:
                     patches.enter_context(mock.patch.object(module, each, value))
                 self.check(repository, str(repository))
+
+
+class Elements(unittest.TestCase):
+    def test_an_end_tag_may_be_cut(self) -> None:
+        entries = b"".join(
+            b"<logentry\n revision='%d'><msg>\x01&lt;/logentry></msg></logentry>\n" % rev for rev in range(9)
+        )
+        text = b"<?xml version='1.0'?>\n<log>\n" + entries + b"</log>\n"
+        for size in (1, 2, 11, 12, 13, 40, 999):
+            with mock.patch.object(commands, "PIECE", size):
+                found = [*commands.elements(io.BytesIO(text), "logentry")]
+            self.assertEqual([each.attrib["revision"] for each in found], [str(rev) for rev in range(9)], size)
+            self.assertEqual({commands.bytes_of(each[0].text or "") for each in found}, {b"\x01</logentry>"})
+
+    def test_one_that_is_long_is_joined_once(self) -> None:
+        text = b"<log><logentry>" + b"<path/>" * 40000 + b"</logentry></log>"
+        with mock.patch.object(commands, "PIECE", 64):
+            (found,) = commands.elements(io.BytesIO(text), "logentry")
+        self.assertEqual(len(found), 40000)
 
 
 class Hidden(Case):

@@ -87,13 +87,19 @@ def elements(stream: IO[bytes], tag: str) -> Iterator[xml.Element]:
     """Yield the elements of a name in XML, one after another. They are neighbours, and each has an end tag. `bytes_of`
     returns what their texts stand for."""
     begin, end = re.compile(rb"<%s[\s>]" % tag.encode("ascii")), b"</%s>" % tag.encode("ascii")
-    left = b""
-    is_first = True
+    held: list[bytes] = []
+    # The last bytes, in which an end tag may begin. An element may be long, so that all is joined only where it ends.
+    edge: bytes | None = None
     for piece in iter(lambda: stream.read(PIECE), b""):
-        if is_first and not piece.startswith(b"<"):
+        if edge is None and not piece.startswith(b"<"):
             raise Failed("svn printed something other than XML")
-        is_first = False
-        whole, closing_tag, left = (left + piece).rpartition(end)
+        held.append(piece)
+        searched = (edge or b"") + piece
+        edge = searched[1 - len(end) :]
+        if end not in searched:
+            continue
+        whole, closing_tag, left = b"".join(held).rpartition(end)
+        held = [left]
         found = begin.search(whole)
         if found is not None:
             yield from element_of(b"<all>" + whole[found.start() :] + closing_tag + b"</all>")
