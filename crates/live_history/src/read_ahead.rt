@@ -164,7 +164,8 @@ impl ReadAhead {
         ensures room { IfOk result (λ found. room self.new ≤ room self.old) }
         ensures error { IfErr result (IsLineEnd (stream self.old (I.state input.old)) (I.state input.new)) }
         ensures unfailed { OnOk result ((I.state input.new).failures ≡ (I.state input.old).failures) }
-        ensures unended { IfOk result (λ found. IfSome found (λ _. (I.state input.new).ends ≡ (I.state input.old).ends)) }
+        ensures unended { IfOk result
+            (λ found. IfSome found (λ _. (I.state input.new).ends ≡ (I.state input.old).ends)) }
         ensures memory { IsErrOf result (Run Memory) → (I.state input.new).failures ≡ (I.state input.old).failures }
         ensures open { IsErrOf result (Run Memory) → (I.state input.new).ends ≡ (I.state input.old).ends }
     {

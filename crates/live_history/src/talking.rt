@@ -46,7 +46,7 @@ pub fn talk<R: RandomSource + Threads + Wait + Sync, D: Pull, I: Pull, O: Push>(
     ensures error { IfErr result (IsTalkError (D.state dump.old) (D.state dump.new) (I.state input.old)
         (I.state input.new) (O.state output.old) (O.state output.new)) }
 
-    // Want of memory takes the place of no other reason.
+    // Want of memory is no failed read, and no input that ended.
     ensures memory_dump { IsErrOf result (Run Memory) → (D.state dump.new).failures ≡ (D.state dump.old).failures }
     ensures memory { IsErrOf result (Run Memory) → (I.state input.new).failures ≡ (I.state input.old).failures }
     ensures open { IsErrOf result (Run Memory) → (I.state input.new).ends ≡ (I.state input.old).ends }
