@@ -4,6 +4,7 @@ from __future__ import annotations
 import os
 import subprocess
 import time
+from functools import partial
 from pathlib import Path
 from unittest import mock
 
@@ -20,6 +21,14 @@ ASKED = base.commands(
     "log -v; log -q -r 3:9 trunk; mergeinfo branches/two; mergeinfo --show-revs eligible trunk branches/two; "
     "segments tags/one-1.0; branches; where trunk 3"
 )
+
+
+def has_text(path: Path) -> bool:
+    return path.exists() and bool(path.read_text())
+
+
+def is_gone(path: Path) -> bool:
+    return not path.exists()
 
 
 class Case(base.Case):
@@ -171,18 +180,19 @@ class Failing(Case):
                 self.check_said(base.called(made.folder, "info"), status, said)
 
     def test_no_command_is_left_over(self) -> None:
-        made = self.repository()
-        with base.signals_end(), grown.instead_of(
-            self.folder, "log", f"echo $$ > {self.folder}/number; exec sleep 600"
-        ):
-            child = subprocess.Popen(base.command(made.folder, "info"))
-        number = self.folder / "number"
-        base.wait_for(lambda: number.exists() and number.read_text())
-        # Python may be on its way out of the call that started it.
-        time.sleep(0.5)
-        child.terminate()
-        child.wait()
-        base.wait_for(lambda: not Path(f"/proc/{number.read_text().strip()}").exists())
+        made = self.repository("merges")
+        for verb in ("log", "propget"):
+            numbers = self.folder / f"numbers-{verb}"
+            line = f"echo $$ >> {numbers}; exec sleep 600"
+            with base.signals_end(), grown.instead_of(self.folder, verb, line):
+                child = subprocess.Popen(base.command(made.folder, "info"))
+            base.wait_for(partial(has_text, numbers))
+            # Python may be on its way out of the call that started it.
+            time.sleep(0.5)
+            child.terminate()
+            child.wait()
+            for number in numbers.read_text().split():
+                base.wait_for(partial(is_gone, Path(f"/proc/{number}")))
         self.asked(made.folder, "info")
 
 

@@ -111,8 +111,14 @@ class Fetch:
         for revisions in self._parts(ahead):
             self._asked.append(FetchedPart(self._svn, self._now.root, revisions))
             if len(self._asked) > 1:
-                yield self._asked.popleft()
-        yield from self._asked
+                yield from self._written()
+        while self._asked:
+            yield from self._written()
+
+    def _written(self) -> Iterator[FetchedPart]:
+        """Yield the first part, which is over when the next one is wanted."""
+        yield self._asked[0]
+        self._asked.popleft().values.close()
 
     def _write_log(self, file: IO[bytes], pieces: Iterator[FetchedPart]) -> None:
         writer = CopyWriter(self.index, file.write)

@@ -147,8 +147,8 @@ class MergeinfoValues:
 
     def __iter__(self) -> Iterator[bytes | None]:
         while self._running:
-            with closing(self._running.popleft()) as asked:
-                yield from asked.values()
+            yield from self._running[0].values()
+            self._running.popleft().close()
             self._start()
 
     def close(self) -> None:
