@@ -1,5 +1,5 @@
 //! Sending a report, and the line that says why there is none.
-ghost use Rattle.std.specs.Prelude.{◌+◌, ◌<◌, ◌≤◌, ◌↔◌, take, length, IfErr, OnOk, IsErr, IsTrue};
+ghost use Rattle.std.specs.Prelude.{◌≡◌, ◌+◌, ◌<◌, ◌≤◌, ◌↔◌, take, length, IfErr, OnOk, IsErr, IsTrue};
 ghost use Rattle.std.specs.Io.KnownBytes.{Appends};
 ghost use Rattle.devices.specs.Sending.{PrintsLine};
 
@@ -24,6 +24,7 @@ pub fn send<W: Push>(output: &mut W, bytes: &[u8]) -> Result<(), SendError>
     ensures called { (W.state output.old).calls < (W.state output.new).calls }
 
     // The device is not called again after a failure, since each call of a failed device fails.
+    ensures unfailed { OnOk result ((W.state output.new).failures ≡ (W.state output.old).failures) }
     ensures fails_once { (W.state output.new).failures ≤ (W.state output.old).failures + 1 }
 {
     let mut sent = 0;

@@ -94,7 +94,7 @@ module _ {feed fed : FeedValue} {done : ℕ} {old mid : Stream} (first : IsFed f
       let all = AreLast-more first.taken last in
       record {
         rest = first.bytes ++ [];
-        read = record { bytes = all.bytes; once = omega (arith, all.ended.ends, all.ended.failures); ends = omega (arith, all.ended.ends); failures = omega (arith, all.ended.failures) };
+        read = record { bytes = all.bytes; once = omega (arith, all.ended.ends, all.ended.failures); ends = omega (arith, all.ended.ends); failures = omega (arith, all.ended.failures); few = all.ended.few };
         why = inr (inr (inl (record { is = refl; ended = all.ended; part = IsPartOfPiece-fed before size [] has short refl })));
       }
 
@@ -102,7 +102,7 @@ module _ {feed fed : FeedValue} {done : ℕ} {old mid : Stream} (first : IsFed f
   pub IsPieceEnd-decided : (before : List ℕ) (size : ℕ) (ahead : ReadAheadValue) (after : PullState) (count : ℕ) (error : DumpError) → mid ≡ stream ahead after → count ≤ length ahead.unread → done + count ≤ size → length ahead.unread ≤ most_bytes
       → HasRead feed before → ((bytes : List ℕ) → HasRead fed bytes → IsDecidedError (bytes ++ take count ahead.unread) error) → IsPieceEnd before size old after (Run (run_error_of_dump error))
   IsPieceEnd-decided before size ahead after count error here inside within near has decided =
-      let left : IsReadUpTo mid after ahead.unread = rw here (record { bytes = Consumes-unread ahead.unread after.left; once = omega arith; ends = omega arith; failures = omega arith }) in
+      let left : IsReadUpTo mid after ahead.unread = rw here (record { bytes = Consumes-unread ahead.unread after.left; once = omega arith; ends = omega arith; failures = omega arith; few = omega arith }) in
       let read = IsReadUpTo-more first.taken left in
       by error (decided (before ++ first.bytes) (first.read before has)) read
     where

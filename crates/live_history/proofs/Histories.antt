@@ -43,7 +43,7 @@ IsNoHistory-load old new bytes dump load.Memory all read first = tt
 
 module _ {feed fed : FeedValue} {size : ℕ} {old : Stream} (ahead : ReadAheadValue) (after : PullState) (first : IsFed feed size old (stream ahead after) fed) (near : length ahead.unread ≤ most_bytes) (before : List ℕ) where
   rest_read : IsReadUpTo old after (first.bytes ++ ahead.unread)
-  rest_read = IsReadUpTo-more first.taken (record { bytes = Consumes-unread ahead.unread after.left; once = omega arith; ends = omega arith; failures = omega arith })
+  rest_read = IsReadUpTo-more first.taken (record { bytes = Consumes-unread ahead.unread after.left; once = omega arith; ends = omega arith; failures = omega arith; few = omega arith })
 
   -- its end shows a refusal
   pub IsPieceEnd-refused : (error : DumpError) → HasRead feed before → IsRefusal (before ++ first.bytes) error → IsPieceEnd before size old after (Run (run_error_of_dump error))

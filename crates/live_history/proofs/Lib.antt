@@ -7,4 +7,5 @@ mod QueryLines
 mod ReadAheads
 mod Streams
 mod Talks
+mod Waiting
 mod WholeTalks

@@ -71,7 +71,7 @@ module _ (state : TalkState) (old : Stream) (gone : Option (List ℕ)) (mid : St
     talk = IsTalk-one asked turn ready (history_in_bytes grown.repo, is.is.dump, refl)
 
     unread : IsReadUpTo up.between input (turns_bytes (turn ∷ []) ++ ahead.unread)
-    unread = IsReadUpTo-more taken (record { bytes = Consumes-unread ahead.unread input.left; once = omega arith; ends = omega arith; failures = omega arith })
+    unread = IsReadUpTo-more taken (record { bytes = Consumes-unread ahead.unread input.left; once = omega arith; ends = omega arith; failures = omega arith; few = omega arith })
 
     -- there was no memory for what is said for it
     pub IsEndEarly-silent : IsEndEarly state old gone input between (Run run.Memory)

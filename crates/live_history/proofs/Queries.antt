@@ -38,7 +38,7 @@ turns_bytes-queries lines = sym (flat_map-mapped turn_bytes query lines)
 
 -- what was read ahead and not taken
 pub unread-read : (ahead : ReadAheadValue) (input : PullState) → IsReadUpTo (stream ahead input) input ahead.unread
-unread-read ahead input = record { bytes = Consumes-unread ahead.unread input.left; once = omega arith; ends = omega arith; failures = omega arith }
+unread-read ahead input = record { bytes = Consumes-unread ahead.unread input.left; once = omega arith; ends = omega arith; failures = omega arith; few = omega arith }
 
 -- ---- turns that were replied to
 

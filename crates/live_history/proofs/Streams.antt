@@ -1,5 +1,5 @@
 -- Bytes that are taken off an input after others.
-use Rattle.std.proofs.Common.{◌≡◌, ◌⊎◌, ℕ, ◌+◌, List, [], ◌++◌, inl, inr, refl, ap, ◌∙◌, arith}
+use Rattle.std.proofs.Common.{◌≡◌, ◌⊎◌, ℕ, ◌+◌, ◌≤◌, List, [], ◌++◌, inl, inr, refl, ap, subst, ◌∙◌, arith}
 use Rattle.std.specs.Prelude.{IsTrue}
 use Rattle.std.proofs.KnownBytes.{Consumes-nil, Consumes-trans}
 use Rattle.devices.specs.Device.{PullState}
@@ -19,10 +19,11 @@ module _ {old mid : Stream} {taken : List ℕ} (first : AreTaken old mid taken) 
   }
 
   pub HasEnded-more : {after : PullState} → HasEnded mid after → HasEnded old after
-  HasEnded-more next = record {
+  HasEnded-more {after} next = record {
     end = next.end;
     ends = next.ends ∙ ap (λ n. n + 1) first.ends;
     failures = next.failures ∙ first.failures;
+    few = subst (λ n. after.calls ≤ n) first.limit next.few;
     sound = next.sound;
   }
 
@@ -35,6 +36,7 @@ module _ {old mid : Stream} {taken : List ℕ} (first : AreTaken old mid taken) 
     once = omega (arith, next.once, first.ends, first.failures);
     ends = omega (arith, next.ends, first.ends);
     failures = omega (arith, next.failures, first.failures);
+    few = subst (λ n. after.calls ≤ n) first.limit next.few;
   }
 
   pub IsUnread-more : {after : PullState} → IsUnread mid after → IsUnread old after

@@ -1,3 +1,4 @@
+pub mod Client
 pub mod History
 pub mod PieceEnd
 pub mod ReadAhead
@@ -9,3 +10,4 @@ pub mod TalkError
 pub mod Talking
 pub mod Turn
 pub mod Turns
+pub mod Waiting

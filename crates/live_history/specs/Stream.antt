@@ -35,6 +35,7 @@ module _ (old : Stream) where
     pub end : IsAtEnd after.left
     pub ends : after.ends ≡ old.ends + 1
     pub failures : after.failures ≡ old.failures
+    pub few : after.calls ≤ old.limit
     pub sound : IsFalse after.has_failed
 
   -- these bytes were the last ones
@@ -60,9 +61,10 @@ module _ (old : Stream) where
     pub unread : IsUnread after
     pub line : Lacks 10 rest
 
-  -- these bytes were read; no more than one call came to the end or failed
+  -- these bytes were read, by no more calls than may be, of which one at most came to the end or failed
   pub record IsReadUpTo (after : PullState) (rest : List ℕ) : Type 0 where
     pub bytes : Consumes old.come after.left rest
     pub once : after.ends + after.failures ≤ old.ends + old.failures + 1
     pub ends : after.ends ≤ old.ends + 1
     pub failures : after.failures ≤ old.failures + 1
+    pub few : after.calls ≤ old.limit

@@ -1,4 +1,5 @@
 //! A history that was read and may grow.
+use crate::client::Client;
 use crate::feeding::feed_piece;
 use crate::read_ahead::ReadAhead;
 use crate::talk_error::TalkError;
@@ -32,6 +33,7 @@ impl History {
     ghost use Rattle.live_history.specs.ReadAhead.{room, stream};
     ghost use Rattle.live_history.specs.Talk.{ready_text};
     ghost use Rattle.live_history.specs.TalkEnd.{IsNoHistory};
+    ghost use Rattle.live_history.specs.Waiting.{IsPieceNext};
     ghost use Rattle.live_history.specs.declared.talk_error.TalkError.TheVariants.{Run};
 
     /// The history of the dump that a device gives, read to its end.
@@ -58,37 +60,42 @@ impl History {
     }
 
     /// This history with a further piece of the dump, of so many bytes, which is taken off the input.
-    pub(crate) fn grow<R: Threads + Wait + Sync, I: Pull>(
+    pub(crate) fn grow<R: Threads + Wait + Sync, C: Client>(
         self,
         rt: &R,
         alloc: Global,
         size: u64,
         workers: usize,
         ahead: &mut ReadAhead,
-        input: &mut I,
+        client: &mut C,
     ) -> Result<Self, TalkError>
         requires whole { IsWholeHistory self.repo }
         requires few { self.paused.count + room ahead.old < 2 ^ 64 }
         requires near { length ahead.old.unread ≤ most_bytes }
+        requires piece { IsPieceNext (C.first client.old) (C.output client.old)
+            (stream ahead.old (C.input client.old)).come size }
         requires some_worker { 0 < workers }
         requires few_workers { workers ≤ most_workers }
         ensures ok { IfOk result (λ grown. (before : List ℕ) → IsHistoryOf before self
-            → IsGrown before size (stream ahead.old (I.state input.old)) (stream ahead.new (I.state input.new)) grown) }
+            → IsGrown before size (stream ahead.old (C.input client.old)) (stream ahead.new (C.input client.new))
+            grown) }
         ensures whole { IfOk result (λ grown. IsWholeHistory grown.repo) }
         ensures few { IfOk result (λ grown. grown.paused.count + room ahead.new ≤ self.paused.count + room ahead.old) }
         ensures room { IfOk result (λ grown. room ahead.new ≤ room ahead.old) }
         ensures near { IfOk result (λ grown. length ahead.new.unread ≤ most_bytes) }
         ensures error { IfErr result (λ e. (before : List ℕ) → IsHistoryOf before self
-            → IsPieceEnd before size (stream ahead.old (I.state input.old)) (I.state input.new) e) }
-        ensures unfailed { OnOk result ((I.state input.new).failures ≡ (I.state input.old).failures) }
-        ensures unended { OnOk result ((I.state input.new).ends ≡ (I.state input.old).ends) }
-        ensures memory { IsErrOf result (Run Memory) → (I.state input.new).failures ≡ (I.state input.old).failures }
-        ensures open { IsErrOf result (Run Memory) → (I.state input.new).ends ≡ (I.state input.old).ends }
+            → IsPieceEnd before size (stream ahead.old (C.input client.old)) (C.input client.new) e) }
+        ensures unfailed { OnOk result ((C.input client.new).failures ≡ (C.input client.old).failures) }
+        ensures unended { OnOk result ((C.input client.new).ends ≡ (C.input client.old).ends) }
+        ensures memory { IsErrOf result (Run Memory) → (C.input client.new).failures ≡ (C.input client.old).failures }
+        ensures open { IsErrOf result (Run Memory) → (C.input client.new).ends ≡ (C.input client.old).ends }
+        ensures output { C.output client.new ≡ C.output client.old }
+        ensures first { C.first client.new ≡ C.first client.old }
     {
         let History { repo, paused } = self;
         let (dump, index, map, _) = repo.into_parts();
         let mut feed = paused.resume(dump);
-        feed_piece(&mut feed, size, ahead, input)?;
+        feed_piece(&mut feed, size, ahead, client)?;
         let (dump, paused) = feed.pause()?;
         let repo = grow_repo(rt, alloc, dump, index, map, workers)?;
         Ok(History { repo, paused })

@@ -1,16 +1,17 @@
-//! A talk about the history of a dump, which stays open and grows: turns come from one device, and replies go to
-//! another.
+//! A talk about the history of a dump, which stays open and grows: turns come from a client, and replies go to it.
 //!
 //! ```
+//! let mut client = client;
 //! let mut dump = Device::new(dump);
-//! let mut input = Device::new(input);
-//! let mut output = Device::new(output);
-//! talk(rt, alloc, &mut dump, workers, &mut input, &mut output)
+//! talk(rt, alloc, &mut dump, workers, &mut client)
 //! ```
 //!
-//! A turn is a query line, or a line `piece BYTES` with as many further bytes of the dump.
+//! A client behind two devices is `Connection::new(input, output)`. A turn is a query line, or a line `piece BYTES` with
+//! as many further bytes of the dump.
 #![tactic(auto)]
 
+mod client;
+mod connection;
 mod feeding;
 mod history;
 mod read_ahead;
@@ -19,5 +20,7 @@ mod talk_error;
 mod talking;
 mod turns;
 
+pub use client::Client;
+pub use connection::Connection;
 pub use talk_error::TalkError;
 pub use talking::talk;

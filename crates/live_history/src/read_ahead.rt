@@ -4,12 +4,15 @@ ghost use Rattle.svn_text.specs.Cut.{Lacks};
 ghost use Rattle.svn_report.specs.Load.{most_reads};
 ghost use Rattle.svn_report.specs.ReportFrom.{most_bytes};
 ghost use Rattle.svn_report.specs.declared.run_error.RunError.TheVariants.{Memory};
+ghost use Rattle.live_history.specs.Client.{IsAllRepliedTo, IsRepliedUpTo};
 ghost use Rattle.live_history.specs.ReadAhead.{AreNear, HasLine, IsLineEnd, IsReadEnd, room, stream};
 ghost use Rattle.live_history.specs.Stream.{AreLast, AreTaken};
+ghost use Rattle.live_history.specs.Waiting.{IsInPiece};
 ghost use Rattle.live_history.specs.declared.talk_error.TalkError.TheVariants.{Run};
 
+use crate::client::Client;
 use crate::talk_error::TalkError;
-use devices::{Pull, Source};
+use devices::Source;
 use std::alloc::{AllocError, Global};
 use std::marker::Model;
 use svn_report::RunError;
@@ -87,21 +90,25 @@ impl ReadAhead {
     }
 
     /// Reads once, and says how many bytes came: 0 is the end of the input.
-    fn read<I: Pull>(&mut self, input: &mut I) -> Result<usize, TalkError>
-        requires { Lacks 10 self.old.unread }
+    fn read<C: Client>(&mut self, client: &mut C) -> Result<usize, TalkError>
+        requires line { Lacks 10 self.old.unread }
+        requires replied { IsAllRepliedTo (C.first client.old) (C.input client.old) (C.output client.old) }
         ensures few { IfOk result (λ count. count ≤ most_bytes) }
         ensures more { IfOk result (λ count. length self.new.unread ≡ length self.old.unread + count) }
         ensures taken { IfOk result (λ count. 0 < count
-            → AreTaken (stream self.old (I.state input.old)) (stream self.new (I.state input.new)) []) }
+            → AreTaken (stream self.old (C.input client.old)) (stream self.new (C.input client.new)) []) }
         ensures end { IfOk result (λ count. count ≡ 0
-            → AreLast (stream self.old (I.state input.old)) (I.state input.new) self.new.unread) }
+            → AreLast (stream self.old (C.input client.old)) (C.input client.new) self.new.unread) }
+        ensures kept { IfOk result (λ count. count ≡ 0 → self.new.unread ≡ self.old.unread) }
         ensures less { IfOk result (λ _. room self.new < room self.old) }
         ensures error { IfErr result
-            (λ e. IsReadEnd (stream self.old (I.state input.old)) (I.state input.new) e self.old.unread) }
-        ensures unfailed { OnOk result ((I.state input.new).failures ≡ (I.state input.old).failures) }
-        ensures unended { IfOk result (λ count. 0 < count → (I.state input.new).ends ≡ (I.state input.old).ends) }
-        ensures memory { IsErrOf result (Run Memory) → (I.state input.new).failures ≡ (I.state input.old).failures }
-        ensures open { IsErrOf result (Run Memory) → (I.state input.new).ends ≡ (I.state input.old).ends }
+            (λ e. IsReadEnd (stream self.old (C.input client.old)) (C.input client.new) e self.old.unread) }
+        ensures unfailed { OnOk result ((C.input client.new).failures ≡ (C.input client.old).failures) }
+        ensures unended { IfOk result (λ count. 0 < count → (C.input client.new).ends ≡ (C.input client.old).ends) }
+        ensures memory { IsErrOf result (Run Memory) → (C.input client.new).failures ≡ (C.input client.old).failures }
+        ensures open { IsErrOf result (Run Memory) → (C.input client.new).ends ≡ (C.input client.old).ends }
+        ensures output { C.output client.new ≡ C.output client.old }
+        ensures first { C.first client.new ≡ C.first client.old }
     {
         if self.reads == 0 {
             return Err(TalkError::Run(RunError::Read(Source::Input)));
@@ -109,7 +116,7 @@ impl ReadAhead {
         self.reads -= 1;
         self.forget()?;
         self.searched = self.unread().len();
-        match input.pull(self.piece.as_mut_slice()) {
+        match client.read(self.piece.as_mut_slice()) {
             Err(_) => Err(TalkError::Run(RunError::Read(Source::Input))),
             Ok(0) => Ok(0),
             Ok(count) => {
@@ -120,23 +127,27 @@ impl ReadAhead {
     }
 
     /// Reads once where all that was read is taken. `false` where nothing is left.
-    pub(crate) fn read_some<I: Pull>(&mut self, input: &mut I) -> Result<bool, TalkError>
+    pub(crate) fn read_some<C: Client>(&mut self, client: &mut C) -> Result<bool, TalkError>
+        requires piece { IsInPiece (C.first client.old) (C.output client.old)
+            (stream self.old (C.input client.old)).come }
         ensures some { IfOk result (λ more. IsTrue more → 0 < length self.new.unread) }
         ensures taken { IfOk result (λ more. IsTrue more
-            → AreTaken (stream self.old (I.state input.old)) (stream self.new (I.state input.new)) []) }
+            → AreTaken (stream self.old (C.input client.old)) (stream self.new (C.input client.new)) []) }
         ensures end { IfOk result (λ more. IsFalse more
-            → AreLast (stream self.old (I.state input.old)) (I.state input.new) []) }
+            → AreLast (stream self.old (C.input client.old)) (C.input client.new) []) }
         ensures room { IfOk result (λ more. room self.new ≤ room self.old) }
         ensures near { IfOk result (λ _. length self.old.unread ≤ most_bytes → length self.new.unread ≤ most_bytes) }
         ensures error { IfErr result
-            (λ e. IsReadEnd (stream self.old (I.state input.old)) (I.state input.new) e []) }
-        ensures unfailed { OnOk result ((I.state input.new).failures ≡ (I.state input.old).failures) }
-        ensures unended { IfOk result (λ more. IsTrue more → (I.state input.new).ends ≡ (I.state input.old).ends) }
-        ensures memory { IsErrOf result (Run Memory) → (I.state input.new).failures ≡ (I.state input.old).failures }
-        ensures open { IsErrOf result (Run Memory) → (I.state input.new).ends ≡ (I.state input.old).ends }
+            (λ e. IsReadEnd (stream self.old (C.input client.old)) (C.input client.new) e []) }
+        ensures unfailed { OnOk result ((C.input client.new).failures ≡ (C.input client.old).failures) }
+        ensures unended { IfOk result (λ more. IsTrue more → (C.input client.new).ends ≡ (C.input client.old).ends) }
+        ensures memory { IsErrOf result (Run Memory) → (C.input client.new).failures ≡ (C.input client.old).failures }
+        ensures open { IsErrOf result (Run Memory) → (C.input client.new).ends ≡ (C.input client.old).ends }
+        ensures output { C.output client.new ≡ C.output client.old }
+        ensures first { C.first client.new ≡ C.first client.old }
     {
         if self.unread().is_empty() {
-            Ok(self.read(input)? > 0)
+            Ok(self.read(client)? > 0)
         } else {
             Ok(true)
         }
@@ -154,26 +165,33 @@ impl ReadAhead {
     }
 
     /// Reads until there is a whole line, and answers its length; `None` where nothing is left.
-    pub(crate) fn read_line<I: Pull>(&mut self, input: &mut I) -> Result<Option<usize>, TalkError>
+    pub(crate) fn read_line<C: Client>(
+        &mut self,
+        client: &mut C,
+    ) -> Result<Option<usize>, TalkError>
+        requires replied { IsRepliedUpTo (C.first client.old) (C.output client.old)
+            (stream self.old (C.input client.old)).come }
         ensures line { IfOk result (λ found. IfSome found (HasLine self.new.unread)) }
         ensures near { IfOk result (λ found. IfSome found (λ _. AreNear self.new.unread)) }
         ensures taken { IfOk result (λ found. IfSome found (λ _.
-            AreTaken (stream self.old (I.state input.old)) (stream self.new (I.state input.new)) [])) }
+            AreTaken (stream self.old (C.input client.old)) (stream self.new (C.input client.new)) [])) }
         ensures end { IfOk result (λ found. IfNone found
-            (AreLast (stream self.old (I.state input.old)) (I.state input.new) [])) }
+            (AreLast (stream self.old (C.input client.old)) (C.input client.new) [])) }
         ensures room { IfOk result (λ found. room self.new ≤ room self.old) }
-        ensures error { IfErr result (IsLineEnd (stream self.old (I.state input.old)) (I.state input.new)) }
-        ensures unfailed { OnOk result ((I.state input.new).failures ≡ (I.state input.old).failures) }
+        ensures error { IfErr result (IsLineEnd (stream self.old (C.input client.old)) (C.input client.new)) }
+        ensures unfailed { OnOk result ((C.input client.new).failures ≡ (C.input client.old).failures) }
         ensures unended { IfOk result
-            (λ found. IfSome found (λ _. (I.state input.new).ends ≡ (I.state input.old).ends)) }
-        ensures memory { IsErrOf result (Run Memory) → (I.state input.new).failures ≡ (I.state input.old).failures }
-        ensures open { IsErrOf result (Run Memory) → (I.state input.new).ends ≡ (I.state input.old).ends }
+            (λ found. IfSome found (λ _. (C.input client.new).ends ≡ (C.input client.old).ends)) }
+        ensures memory { IsErrOf result (Run Memory) → (C.input client.new).failures ≡ (C.input client.old).failures }
+        ensures open { IsErrOf result (Run Memory) → (C.input client.new).ends ≡ (C.input client.old).ends }
+        ensures output { C.output client.new ≡ C.output client.old }
+        ensures first { C.first client.new ≡ C.first client.old }
     {
         'reads: loop {
             if let Some(len) = self.line() {
                 return Ok(Some(len));
             }
-            if self.read(input)? == 0 {
+            if self.read(client)? == 0 {
                 return if self.unread().is_empty() {
                     Ok(None)
                 } else {

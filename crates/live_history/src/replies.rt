@@ -14,12 +14,13 @@ ghost use Rattle.live_history.specs.Replies.{AreRepliedTo, IsUpToNext, KeepsOutp
 ghost use Rattle.live_history.specs.Talk.{IsLawfulDump, TalkState};
 ghost use Rattle.live_history.specs.TalkEnd.{IsEndEarly, most_answered};
 ghost use Rattle.live_history.specs.Turns.{HasQuery};
+ghost use Rattle.live_history.specs.Waiting.{IsCaughtUp};
 ghost use Rattle.live_history.specs.declared.talk_error.TalkError.TheVariants.{Run};
 
+use crate::client::Client;
 use crate::read_ahead::ReadAhead;
 use crate::talk_error::TalkError;
 use crate::turns::{Next, first_queries, read_next};
-use devices::{Pull, Push, send};
 use query_answer::Repo;
 use std::alloc::{AllocError, Global};
 use std::sync::Wait;
@@ -31,45 +32,51 @@ use value_memo::Memo;
 const SHARE: usize = 16;
 
 /// Replies to queries up to the next piece, and answers how many bytes it has; `None` at the end of the input.
-pub(crate) fn reply_up_to_piece<R: Threads + Wait + Sync, I: Pull, O: Push>(
+pub(crate) fn reply_up_to_piece<R: Threads + Wait + Sync, C: Client>(
     rt: &R,
     alloc: Global,
     repo: &Repo,
     workers: usize,
     answered: &mut u32,
     ahead: &mut ReadAhead,
-    input: &mut I,
-    output: &mut O,
+    client: &mut C,
 ) -> Result<Option<u64>, TalkError>
     requires some_worker { 0 < workers }
     requires few_workers { workers ≤ most_workers }
     requires few_answered { answered.old ≤ most_answered }
+    requires replied { IsCaughtUp (C.first client.old) (C.output client.old)
+        (stream ahead.old (C.input client.old)).come answered.old
+        (λ dump. IsLawfulDump dump (history_in_bytes repo.now)) }
     ensures ok { IfOk result (λ next. (state : TalkState) → IsLawfulDump state.dump (history_in_bytes repo.now)
         → state.answered ≡ answered.old
-        → IsUpToNext state (stream ahead.old (I.state input.old)) (O.state output.old).gone
-        (stream ahead.new (I.state input.new)) (I.state input.new) (O.state output.new) answered.new next) }
+        → IsUpToNext state (stream ahead.old (C.input client.old)) (C.output client.old).gone
+        (stream ahead.new (C.input client.new)) (C.input client.new) (C.output client.new) answered.new next) }
     ensures few_answered { IfOk result (λ next. answered.new ≤ most_answered) }
     ensures room { IfOk result (λ next. room ahead.new ≤ room ahead.old) }
     ensures less { IfOk result (λ next. IfSome next (λ _. room ahead.new < room ahead.old)) }
     ensures near { IfOk result (λ next. IfSome next (λ _. length ahead.new.unread ≤ most_bytes)) }
-    ensures flushed { IfOk result (λ _. IsTrue (O.state output.old).is_flushed → IsTrue (O.state output.new).is_flushed) }
+    ensures flushed { IfOk result
+        (λ _. IsTrue (C.output client.old).is_flushed → IsTrue (C.output client.new).is_flushed) }
     ensures sound { IfOk result
-        (λ _. IsFalse (O.state output.old).has_failed → IsFalse (O.state output.new).has_failed) }
+        (λ _. IsFalse (C.output client.old).has_failed → IsFalse (C.output client.new).has_failed) }
     ensures error { IfErr result (λ e. (state : TalkState) → IsLawfulDump state.dump (history_in_bytes repo.now)
         → state.answered ≡ answered.old
-        → IsEndEarly state (stream ahead.old (I.state input.old)) (O.state output.old).gone
-        (I.state input.new) (O.state output.new) e) }
-    ensures kept { IfErr result (KeepsOutput (O.state output.old) (O.state output.new)) }
-    ensures unfailed { OnOk result ((I.state input.new).failures ≡ (I.state input.old).failures) }
-    ensures unended { IfOk result (λ next. IfSome next (λ _. (I.state input.new).ends ≡ (I.state input.old).ends)) }
-    ensures memory { IsErrOf result (Run Memory) → (I.state input.new).failures ≡ (I.state input.old).failures }
-    ensures open { IsErrOf result (Run Memory) → (I.state input.new).ends ≡ (I.state input.old).ends }
+        → IsEndEarly state (stream ahead.old (C.input client.old)) (C.output client.old).gone
+        (C.input client.new) (C.output client.new) e) }
+    ensures kept { IfErr result (KeepsOutput (C.output client.old) (C.output client.new)) }
+    ensures unfailed { OnOk result ((C.input client.new).failures ≡ (C.input client.old).failures) }
+    ensures unended { IfOk result (λ next. IfSome next (λ _. (C.input client.new).ends ≡ (C.input client.old).ends)) }
+    ensures memory { IsErrOf result (Run Memory) → (C.input client.new).failures ≡ (C.input client.old).failures }
+    ensures open { IsErrOf result (Run Memory) → (C.input client.new).ends ≡ (C.input client.old).ends }
+    ensures sent_all { OnOk result ((C.output client.new).failures ≡ (C.output client.old).failures) }
+    ensures fails_once { (C.output client.new).failures ≤ (C.output client.old).failures + 1 }
+    ensures first { C.first client.new ≡ C.first client.old }
 {
     let memo = repo.memo(alloc)?;
     'turns: loop {
-        match read_next(ahead, input)? {
+        match read_next(ahead, client)? {
             Next::Query => {
-                reply_to_queries(rt, alloc, repo, &memo, workers, answered, ahead, output)?;
+                reply_to_queries(rt, alloc, repo, &memo, workers, answered, ahead, client)?;
             }
             Next::Piece(size) => return Ok(Some(size)),
             Next::End => return Ok(None),
@@ -78,7 +85,7 @@ pub(crate) fn reply_up_to_piece<R: Threads + Wait + Sync, I: Pull, O: Push>(
 }
 
 /// Replies to the first queries of which all is there.
-fn reply_to_queries<'r, R: Threads + Wait + Sync, O: Push>(
+fn reply_to_queries<'r, R: Threads + Wait + Sync, C: Client>(
     rt: &R,
     alloc: Global,
     repo: &'r Repo,
@@ -86,7 +93,7 @@ fn reply_to_queries<'r, R: Threads + Wait + Sync, O: Push>(
     workers: usize,
     answered: &mut u32,
     ahead: &mut ReadAhead,
-    output: &mut O,
+    client: &mut C,
 ) -> Result<(), TalkError>
     requires query { HasQuery ahead.old.unread }
     requires near { AreNear ahead.old.unread }
@@ -96,16 +103,20 @@ fn reply_to_queries<'r, R: Threads + Wait + Sync, O: Push>(
     requires few_answered { answered.old ≤ most_answered }
     ensures ok { OnOk result ((state : TalkState) → IsLawfulDump state.dump (history_in_bytes repo.now)
         → state.answered ≡ answered.old → (input : PullState)
-        → AreRepliedTo state (stream ahead.old input) (O.state output.old).gone (stream ahead.new input)
-        (O.state output.new) answered.new) }
+        → AreRepliedTo state (stream ahead.old input) (C.output client.old).gone (stream ahead.new input)
+        (C.output client.new) answered.new) }
     ensures few { OnOk result (answered.new ≤ most_answered) }
     ensures less { OnOk result (room ahead.new < room ahead.old) }
-    ensures flushed { OnOk result (IsTrue (O.state output.new).is_flushed) }
-    ensures sound { OnOk result (IsFalse (O.state output.new).has_failed) }
+    ensures flushed { OnOk result (IsTrue (C.output client.new).is_flushed) }
+    ensures sound { OnOk result (IsFalse (C.output client.new).has_failed) }
     ensures error { IfErr result (λ e. (state : TalkState) → IsLawfulDump state.dump (history_in_bytes repo.now)
         → state.answered ≡ answered.old → (input : PullState)
-        → IsEndEarly state (stream ahead.old input) (O.state output.old).gone input (O.state output.new) e) }
-    ensures kept { IfErr result (KeepsOutput (O.state output.old) (O.state output.new)) }
+        → IsEndEarly state (stream ahead.old input) (C.output client.old).gone input (C.output client.new) e) }
+    ensures kept { IfErr result (KeepsOutput (C.output client.old) (C.output client.new)) }
+    ensures sent_all { OnOk result ((C.output client.new).failures ≡ (C.output client.old).failures) }
+    ensures fails_once { (C.output client.new).failures ≤ (C.output client.old).failures + 1 }
+    ensures input { C.input client.new ≡ C.input client.old }
+    ensures first { C.first client.new ≡ C.first client.old }
 {
     let most = (SHARE * workers).min((u32::MAX - *answered) as usize);
     if most == 0 {
@@ -113,7 +124,7 @@ fn reply_to_queries<'r, R: Threads + Wait + Sync, O: Push>(
     }
     let (lines, rest) = first_queries(alloc, ahead.unread(), most)?;
     let text = reply_text(rt, alloc, repo, memo, *answered, lines.as_slice(), workers)?;
-    send(output, text.as_slice())?;
+    client.send(text.as_slice())?;
     let count = ahead.unread().len() - rest.len();
     *answered += lines.len() as u32;
     drop(lines);

@@ -3,14 +3,15 @@ ghost use Rattle.std.specs.Prelude.{◌≡◌, ◌<◌, ◌≤◌, ℕ, length, 
 ghost use Rattle.svn_report.specs.Answering.{lent_lines};
 ghost use Rattle.svn_report.specs.ReportFrom.{most_bytes};
 ghost use Rattle.svn_report.specs.declared.run_error.RunError.TheVariants.{Memory};
+ghost use Rattle.live_history.specs.Client.{IsRepliedUpTo};
 ghost use Rattle.live_history.specs.ReadAhead.{IsLineEnd, room, stream};
 ghost use Rattle.live_history.specs.Turn.{IsPieceLine};
 ghost use Rattle.live_history.specs.Turns.{AreQueries, HasQuery, IfPiece, IfTurn, IsFirstQuery, IsNext};
 ghost use Rattle.live_history.specs.declared.talk_error.TalkError.TheVariants.{Run};
 
+use crate::client::Client;
 use crate::read_ahead::ReadAhead;
 use crate::talk_error::TalkError;
-use devices::Pull;
 use std::alloc::{AllocError, Global};
 use svn_text::{number_up_to, split_at_byte};
 
@@ -28,18 +29,22 @@ pub(crate) enum Next {
 }
 
 /// Reads up to the next turn, if there is one.
-pub(crate) fn read_next<I: Pull>(ahead: &mut ReadAhead, input: &mut I) -> Result<Next, TalkError>
-    ensures next { IfOk result (IsNext (stream ahead.old (I.state input.old)) ahead.new (I.state input.new)) }
+pub(crate) fn read_next<C: Client>(ahead: &mut ReadAhead, client: &mut C) -> Result<Next, TalkError>
+    requires replied { IsRepliedUpTo (C.first client.old) (C.output client.old)
+        (stream ahead.old (C.input client.old)).come }
+    ensures next { IfOk result (IsNext (stream ahead.old (C.input client.old)) ahead.new (C.input client.new)) }
     ensures room { IfOk result (λ next. room ahead.new ≤ room ahead.old) }
     ensures less { IfOk result (λ next. IfPiece next (room ahead.new < room ahead.old)) }
     ensures near { IfOk result (λ next. IfPiece next (length ahead.new.unread ≤ most_bytes)) }
-    ensures error { IfErr result (IsLineEnd (stream ahead.old (I.state input.old)) (I.state input.new)) }
-    ensures unfailed { OnOk result ((I.state input.new).failures ≡ (I.state input.old).failures) }
-    ensures unended { IfOk result (λ next. IfTurn next ((I.state input.new).ends ≡ (I.state input.old).ends)) }
-    ensures memory { IsErrOf result (Run Memory) → (I.state input.new).failures ≡ (I.state input.old).failures }
-    ensures open { IsErrOf result (Run Memory) → (I.state input.new).ends ≡ (I.state input.old).ends }
+    ensures error { IfErr result (IsLineEnd (stream ahead.old (C.input client.old)) (C.input client.new)) }
+    ensures unfailed { OnOk result ((C.input client.new).failures ≡ (C.input client.old).failures) }
+    ensures unended { IfOk result (λ next. IfTurn next ((C.input client.new).ends ≡ (C.input client.old).ends)) }
+    ensures memory { IsErrOf result (Run Memory) → (C.input client.new).failures ≡ (C.input client.old).failures }
+    ensures open { IsErrOf result (Run Memory) → (C.input client.new).ends ≡ (C.input client.old).ends }
+    ensures output { C.output client.new ≡ C.output client.old }
+    ensures first { C.first client.new ≡ C.first client.old }
 {
-    let Some(len) = ahead.read_line(input)? else {
+    let Some(len) = ahead.read_line(client)? else {
         return Ok(Next::End);
     };
     match piece_size(&ahead.unread()[..len]) {

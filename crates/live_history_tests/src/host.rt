@@ -3,7 +3,7 @@ ghost use Rattle.std.specs.Prelude.{◌≡◌, ◌<◌, ◌≤◌};
 ghost use Rattle.query_pool.specs.Serving.{most_workers};
 
 use devices::Device;
-use live_history::{TalkError, talk};
+use live_history::{Client, Connection, TalkError, talk};
 use std::alloc::Global;
 use std::io::{self, Read, Write};
 use std::random::RandomSource;
@@ -12,18 +12,20 @@ use std::thread::Threads;
 
 /// Bytes that come a few at a time.
 #[derive(Drop)]
-struct Drip<'a> {
-    left: &'a [u8],
+struct Drip {
+    alloc: Global,
+    left: Vec<u8>,
     most: usize,
 }
 
-impl Read for Drip<'_> {
+impl Read for Drip {
     fn read(&mut self, slice: &mut [u8]) -> io::Result<usize> {
         let count = self.left.len().min(self.most).min(slice.len());
-        let (front, rest) = self.left.split_at(count);
+        let (front, rest) = self.left.as_slice().split_at(count);
         let (taken, _) = slice.split_at_mut(count);
         taken.copy_from_slice(front);
-        self.left = rest;
+        let left = Vec::from_slice(self.alloc, rest)?;
+        self.left = left;
         Ok(count)
     }
 }
@@ -80,33 +82,49 @@ impl Host {
         requires few_workers { self.workers ≤ most_workers }
     {
         let mut said = Vec::new(alloc);
-        let output = Limited {
-            taken: &mut said,
-            most: self.most,
-        };
+        let ended = self.talk_into(rt, alloc, dump, input, &mut said);
+        (said, ended)
+    }
+
+    /// A talk about a dump in memory, whose replies go into a vector.
+    fn talk_into<R: RandomSource + Threads + Wait + Sync>(
+        self,
+        rt: &R,
+        alloc: Global,
+        dump: &[u8],
+        input: &[u8],
+        said: &mut Vec<u8>,
+    ) -> Result<(), TalkError>
+        requires some_worker { 0 < self.workers }
+        requires few_workers { self.workers ≤ most_workers }
+    {
         let input = Drip {
-            left: input,
+            alloc,
+            left: Vec::from_slice(alloc, input)?,
             most: self.at_a_time,
         };
-        let ended = talk_between(rt, alloc, dump, self.workers, input, output);
-        (said, ended)
+        let output = Limited {
+            taken: said,
+            most: self.most,
+        };
+        let client = Connection::new(Device::new(input), Device::new(output));
+        talk_with(rt, alloc, dump, self.workers, client)
     }
 }
 
-/// A talk about a dump in memory.
-fn talk_between<R: RandomSource + Threads + Wait + Sync>(
+/// A talk with a client about a dump in memory.
+fn talk_with<R: RandomSource + Threads + Wait + Sync, C: Client + Drop>(
     rt: &R,
     alloc: Global,
     dump: &[u8],
     workers: usize,
-    input: Drip<'_>,
-    output: Limited<'_>,
+    client: C,
 ) -> Result<(), TalkError>
     requires some_worker { 0 < workers }
     requires few_workers { workers ≤ most_workers }
+    requires new { C.first client ≡ record { input = C.input client; output = C.output client } }
 {
+    let mut client = client;
     let mut dump = Device::new(dump);
-    let mut input = Device::new(input);
-    let mut output = Device::new(output);
-    talk(rt, alloc, &mut dump, workers, &mut input, &mut output)
+    talk(rt, alloc, &mut dump, workers, &mut client)
 }

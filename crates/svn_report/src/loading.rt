@@ -25,6 +25,7 @@ pub fn load<P: Pull>(alloc: Global, input: &mut P, source: Source) -> Result<Vec
 
     // `Read` comes only where no call reached the end, and the device failed or the reads are used up.
     ensures unread { IfErr result (λ e. IsReadError e → IsUnread (P.state input.old) (P.state input.new)) }
+    ensures unfailed { OnOk result ((P.state input.new).failures ≡ (P.state input.old).failures) }
     ensures memory { IsErrOf result RunError.Memory → (P.state input.new).failures ≡ (P.state input.old).failures }
 
     // The device is not called again after a failure, since each call of a failed device fails.

@@ -30,6 +30,9 @@ pub const MOST_QUERIES: usize = MOST_PLACES as usize;
 ///
 /// The queries are answered in batches, one after another, of which the first has 16 queries for each worker. So a call
 /// of the gate that waits for a call at a place of a later batch waits forever.
+///
+/// The gate has to watch the place of each query line: a gate of a host's own says in its `impl` which places it watches,
+/// and is called at no other.
 pub fn report<R: RandomSource + Threads + Wait + Sync, G: Gate>(
     rt: &R,
     alloc: Global,

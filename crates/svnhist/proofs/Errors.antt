@@ -7,15 +7,16 @@ use Rattle.svn_report.specs.Load.{IsReadOrMemory, IsReadError, IsUnread}
 use Rattle.svn_report.specs.RunError.{IsErrorLine, status_of}
 use Rattle.svn_report.specs.declared.run_error.RunError.{RunError}
 use Rattle.svn_report.specs.declared.run_error.RunError.TheVariants as run
+use Rattle.svnhist.specs.Files.{IsOutOfMemory}
 
 -- memory ran out, or the source was not read
 pub IsReadOrMemory-cases : (which : Source) (old new : PullState) (error : RunError) → IsReadOrMemory which error
-    → (IsReadError error → IsUnread old new) → (error ≡ run.Memory) ⊎ ((error ≡ run.Read which) × IsUnread old new)
-IsReadOrMemory-cases which old new run.TooMany wrong unread = absurd wrong
-IsReadOrMemory-cases which old new (run.Dump refused) wrong unread = absurd wrong
-IsReadOrMemory-cases which old new (run.Fault fault) wrong unread = absurd wrong
-IsReadOrMemory-cases which old new (run.Read source) same unread = inr (ap (λ each. run.Read each) same, unread tt)
-IsReadOrMemory-cases which old new run.Memory wrong unread = inl refl
+    → (IsReadError error → IsUnread old new) → (error ≡ run.Memory → new.failures ≡ old.failures) → IsOutOfMemory old new error ⊎ ((error ≡ run.Read which) × IsUnread old new)
+IsReadOrMemory-cases which old new run.TooMany wrong unread same = absurd wrong
+IsReadOrMemory-cases which old new (run.Dump refused) wrong unread same = absurd wrong
+IsReadOrMemory-cases which old new (run.Fault fault) wrong unread same = absurd wrong
+IsReadOrMemory-cases which old new (run.Read source) which_is unread same = inr (ap (λ each. run.Read each) which_is, unread tt)
+IsReadOrMemory-cases which old new run.Memory wrong unread same = inl (refl, same refl)
 
 -- no error has status 0 or 2, and none one above 4
 pub status_of-error : (error : RunError) → (status_of error ≡ 1) ⊎ (status_of error ≡ 3) ⊎ (status_of error ≡ 4)

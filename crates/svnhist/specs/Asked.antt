@@ -10,7 +10,7 @@ use Rattle.svn_report.specs.declared.run_error.RunError.{RunError}
 use Rattle.svn_report.specs.declared.run_error.RunError.TheVariants.{Read, Memory}
 use Rattle.svnhist.specs.Arguments.{ArgumentsValue, IsArguments}
 use Rattle.svnhist.specs.Bundle.{BundleValue, IsBundle}
-use Rattle.svnhist.specs.Files.{IsErrorOnFiles, IsReportOnFiles}
+use Rattle.svnhist.specs.Files.{IsErrorOnFiles, IsOutOfMemory, IsReportOnFiles}
 
 -- ---- the bundle of an input
 
@@ -38,7 +38,7 @@ pub record IsNoBundle (old new : PullState) : Type 0 where
 
 abbrev pub IsErrorOnInput : PullState → PullState → RunError → Type 0
 IsErrorOnInput old new error =
-    (error ≡ Memory) ⊎ ((error ≡ Read Input) × IsUnread old new) ⊎ IsRefusedInput old new error
+    IsOutOfMemory old new error ⊎ ((error ≡ Read Input) × IsUnread old new) ⊎ IsRefusedInput old new error
 
 -- ---- by the arguments
 

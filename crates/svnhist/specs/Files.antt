@@ -8,6 +8,10 @@ use Rattle.svn_report.specs.declared.run_error.RunError.{RunError}
 use Rattle.svn_report.specs.declared.run_error.RunError.TheVariants.{Read, Memory}
 use Rattle.svnhist.specs.Arguments.{ArgumentsValue}
 
+-- memory ran out, and no read failed
+abbrev pub IsOutOfMemory : PullState → PullState → RunError → Type 0
+IsOutOfMemory old new error = (error ≡ Memory) × (new.failures ≡ old.failures)
+
 module _ {D : Type 0} (opens : List ℕ → D → Type 0) (state : D → PullState) where
   -- all bytes of an input that a path opens
   pub record IsFileRead (path bytes : List ℕ) : Type 0 where
@@ -21,7 +25,7 @@ module _ {D : Type 0} (opens : List ℕ → D → Type 0) (state : D → PullSta
     pub input : D
     pub after : D
     pub opened : opens path input
-    pub why : (error ≡ Memory) ⊎ ((error ≡ Read Queries) × IsUnread (state input) (state after))
+    pub why : IsOutOfMemory (state input) (state after) error ⊎ ((error ≡ Read Queries) × IsUnread (state input) (state after))
 
   -- the report on the dump that a path opens
   pub record IsReportOnDump (path queries report : List ℕ) : Type 0 where
@@ -36,6 +40,8 @@ module _ {D : Type 0} (opens : List ℕ → D → Type 0) (state : D → PullSta
     pub after : D
     pub opened : opens path input
     pub why : IsRunErrorFrom (state input) (state after) queries error
+    -- want of memory is no failed read
+    pub memory : error ≡ Memory → (state after).failures ≡ (state input).failures
 
   -- all queries of the one path were read, and this is the report on the dump of the other
   pub record IsReportOnFiles (asked : ArgumentsValue) (report : List ℕ) : Type 0 where

@@ -22,6 +22,10 @@ module _ {D : Type 0} (opens : List ℕ → D → Type 0) (refuses : List ℕ �
     pub read : D
     pub opened : opens path dump
     pub why : IsTalkError (state dump) (state read) input after output sent error
+    -- want of memory is no failed read, and no input that ended
+    pub memory_dump : error ≡ Run Memory → (state read).failures ≡ (state dump).failures
+    pub memory : error ≡ Run Memory → after.failures ≡ input.failures
+    pub unended : error ≡ Run Memory → after.ends ≡ input.ends
 
   -- the path opens nothing
   pub record IsUnopened (path : List ℕ) (error : TalkError) : Type 0 where

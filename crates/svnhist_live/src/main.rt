@@ -5,6 +5,7 @@ mod arguments;
 mod program;
 
 use devices::{Device, SystemFiles, arguments_of};
+use live_history::Connection;
 use std::process::ExitCode;
 
 fn main(rt: HostRuntime) -> ExitCode {
@@ -13,8 +14,7 @@ fn main(rt: HostRuntime) -> ExitCode {
         rt.alloc(),
         &SystemFiles(&rt),
         arguments_of(&rt),
-        &mut Device::new(rt.stdin()),
-        &mut Device::new(rt.stdout()),
+        &mut Connection::new(Device::new(rt.stdin()), Device::new(rt.stdout())),
         &mut Device::new(rt.stderr()),
     )
 }

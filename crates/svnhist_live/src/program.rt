@@ -1,5 +1,5 @@
 //! The program: turns in, replies out.
-ghost use Rattle.std.specs.Prelude.{◌≡◌, ◌≢◌, ◌<◌, ◌≤◌, IfErr, IfOk, IsErrOf, IsFalse, IsOkAnd, IsTrue, OnOk};
+ghost use Rattle.std.specs.Prelude.{◌≡◌, ◌≢◌, ◌+◌, ◌<◌, ◌≤◌, IfErr, IfOk, IsErrOf, IsFalse, IsOkAnd, IsTrue, OnOk};
 ghost use Rattle.std.specs.Process.{exit_status};
 ghost use Rattle.std.specs.IoError.{error_kind};
 ghost use Rattle.query_pool.specs.Serving.{most_workers};
@@ -11,7 +11,7 @@ ghost use Rattle.svnhist_live.specs.ProgramLines.{usage_line};
 
 use crate::arguments::{Arguments, read_arguments};
 use devices::{Open, Pull, Push, Source, print_line};
-use live_history::{TalkError, talk};
+use live_history::{Client, TalkError, talk};
 use std::alloc::Global;
 use std::io::{self, ErrorKind};
 use std::process::ExitCode;
@@ -28,34 +28,33 @@ pub(crate) fn run<
     R: RandomSource + Threads + Wait + Sync,
     F: Open<D>,
     D: Pull + Drop,
-    I: Pull,
-    O: Push,
+    C: Client,
     E: Push,
 >(
     rt: &R,
     alloc: Global,
     files: &F,
     arguments: io::Result<Vec<String>>,
-    input: &mut I,
-    output: &mut O,
+    client: &mut C,
     errors: &mut E,
 ) -> ExitCode
+    requires new { C.first client.old ≡ record { input = C.input client.old; output = C.output client.old } }
     ensures done { exit_status result ≡ 0 → IsTalkAsked (F.opens files.now) (F.refuses files.now) D.state
-        (I.state input.old) (I.state input.new) (O.state output.old) (O.state output.new) (texts_of arguments) }
+        (C.input client.old) (C.input client.new) (C.output client.old) (C.output client.new) (texts_of arguments) }
     ensures misused { exit_status result ≡ 2 → IsMisused (texts_of arguments) }
     ensures usage_line { exit_status result ≡ 2 → PrintsLine (E.state errors.old) (E.state errors.new) usage_line }
-    ensures unread { exit_status result ≡ 2 → input.new ≡ input.old }
-    ensures unsent { exit_status result ≡ 2 → output.new ≡ output.old }
+    ensures untouched { exit_status result ≡ 2 → client.new ≡ client.old }
     ensures ended { exit_status result ≢ 0 → exit_status result ≢ 2 → IsEnded
         (IsErrorAsked (F.opens files.now) (F.refuses files.now) D.state
-        (I.state input.old) (I.state input.new) (O.state output.old) (O.state output.new) (texts_of arguments))
+        (C.input client.old) (C.input client.new) (C.output client.old) (C.output client.new) (texts_of arguments))
         (λ e. IsTalkErrorLine (exit_status result) e (E.state errors.old) (E.state errors.new)) }
     ensures known { exit_status result ≤ 4 }
+    ensures output_once { (C.output client.new).failures ≤ (C.output client.old).failures + 1 }
     ensures silent { exit_status result ≡ 0 → errors.new ≡ errors.old }
     ensures no_texts { IfErr arguments (λ e. error_kind e ≢ ErrorKind.OutOfMemory → exit_status result ≡ 2) }
     ensures no_memory { IfErr arguments (λ e. error_kind e ≡ ErrorKind.OutOfMemory → exit_status result ≡ 4) }
 {
-    match talk_asked(rt, alloc, files, arguments, input, output) {
+    match talk_asked(rt, alloc, files, arguments, client) {
         Ok(true) => ExitCode::from(0),
         Ok(false) => {
             print_line(errors, USAGE);
@@ -66,27 +65,21 @@ pub(crate) fn run<
 }
 
 /// The talk that the arguments ask for. `false` where they ask for nothing.
-fn talk_asked<
-    R: RandomSource + Threads + Wait + Sync,
-    F: Open<D>,
-    D: Pull + Drop,
-    I: Pull,
-    O: Push,
->(
+fn talk_asked<R: RandomSource + Threads + Wait + Sync, F: Open<D>, D: Pull + Drop, C: Client>(
     rt: &R,
     alloc: Global,
     files: &F,
     arguments: io::Result<Vec<String>>,
-    input: &mut I,
-    output: &mut O,
+    client: &mut C,
 ) -> Result<bool, TalkError>
+    requires new { C.first client.old ≡ record { input = C.input client.old; output = C.output client.old } }
     ensures done { IfOk result (λ asked. IsTrue asked → IsTalkAsked (F.opens files.now) (F.refuses files.now) D.state
-        (I.state input.old) (I.state input.new) (O.state output.old) (O.state output.new) (texts_of arguments)) }
+        (C.input client.old) (C.input client.new) (C.output client.old) (C.output client.new) (texts_of arguments)) }
     ensures misused { IfOk result (λ asked. IsFalse asked → IsMisused (texts_of arguments)) }
-    ensures unread { IfOk result (λ asked. IsFalse asked → input.new ≡ input.old) }
-    ensures unsent { IfOk result (λ asked. IsFalse asked → output.new ≡ output.old) }
+    ensures untouched { IfOk result (λ asked. IsFalse asked → client.new ≡ client.old) }
     ensures error { IfErr result (IsErrorAsked (F.opens files.now) (F.refuses files.now) D.state
-        (I.state input.old) (I.state input.new) (O.state output.old) (O.state output.new) (texts_of arguments)) }
+        (C.input client.old) (C.input client.new) (C.output client.old) (C.output client.new) (texts_of arguments)) }
+    ensures output_once { (C.output client.new).failures ≤ (C.output client.old).failures + 1 }
     ensures no_texts { IfErr arguments (λ e. error_kind e ≢ ErrorKind.OutOfMemory → IsOkAnd result IsFalse) }
     ensures no_memory { IfErr arguments (λ e. error_kind e ≡ ErrorKind.OutOfMemory
         → IsErrOf result (TalkError.Run RunError.Memory)) }
@@ -94,7 +87,7 @@ fn talk_asked<
     match arguments {
         Ok(texts) => match read_arguments(texts.as_slice()) {
             Some(asked) => {
-                talk_about(rt, alloc, files, &asked, input, output)?;
+                talk_about(rt, alloc, files, &asked, client)?;
                 Ok(true)
             }
             None => Ok(false),
@@ -105,29 +98,24 @@ fn talk_asked<
 }
 
 /// The talk about a file.
-fn talk_about<
-    R: RandomSource + Threads + Wait + Sync,
-    F: Open<D>,
-    D: Pull + Drop,
-    I: Pull,
-    O: Push,
->(
+fn talk_about<R: RandomSource + Threads + Wait + Sync, F: Open<D>, D: Pull + Drop, C: Client>(
     rt: &R,
     alloc: Global,
     files: &F,
     asked: &Arguments<'_>,
-    input: &mut I,
-    output: &mut O,
+    client: &mut C,
 ) -> Result<(), TalkError>
     requires some_worker { 0 < asked.now.workers }
     requires few_workers { asked.now.workers ≤ most_workers }
-    ensures done { OnOk result (IsTalkOn (F.opens files.now) (F.refuses files.now) D.state (I.state input.old)
-        (I.state input.new) (O.state output.old) (O.state output.new) asked.now.dump.now) }
-    ensures error { IfErr result (IsErrorOn (F.opens files.now) (F.refuses files.now) D.state (I.state input.old)
-        (I.state input.new) (O.state output.old) (O.state output.new) asked.now.dump.now) }
+    requires new { C.first client.old ≡ record { input = C.input client.old; output = C.output client.old } }
+    ensures done { OnOk result (IsTalkOn (F.opens files.now) (F.refuses files.now) D.state (C.input client.old)
+        (C.input client.new) (C.output client.old) (C.output client.new) asked.now.dump.now) }
+    ensures error { IfErr result (IsErrorOn (F.opens files.now) (F.refuses files.now) D.state (C.input client.old)
+        (C.input client.new) (C.output client.old) (C.output client.new) asked.now.dump.now) }
+    ensures output_once { (C.output client.new).failures ≤ (C.output client.old).failures + 1 }
 {
     match files.open(asked.dump) {
-        Some(mut dump) => talk(rt, alloc, &mut dump, asked.workers, input, output),
+        Some(mut dump) => talk(rt, alloc, &mut dump, asked.workers, client),
         None => Err(TalkError::Run(RunError::Read(Source::Dump))),
     }
 }

@@ -6,29 +6,40 @@ use Rattle.live_history.specs.History.{IsFed}
 use Rattle.live_history.specs.ReadAhead.{stream}
 use Rattle.live_history.specs.Stream.{AreTaken}
 use Rattle.live_history.proofs.FedPieces.{AreTaken-front, IsFed-more, IsFed-none, IsFed-read, IsPieceEnd-cut, IsPieceEnd-decided, IsPieceEnd-unread}
+use Rattle.live_history.proofs.Waiting.{IsInPiece-taken}
 use Rattle.live_history.proofs.feeding.feed_piece.Goals as goal
 
 pub bytes-init : goal.bytes-init
 bytes-init g c = record {
-  fed = IsFed-none c.args.feed.now (c.args.size - c.args.size) (stream c.args.ahead.now (g.I.Pull.state c.args.input.now)) (omega arith) c.requires.going;
+  fed = IsFed-none c.args.feed.now (c.args.size - c.args.size) (stream c.args.ahead.now (g.C.Client.input c.args.client.now)) (omega arith) c.requires.going;
   within = omega arith;
   few = omega arith;
   less = omega arith;
   near = c.requires.near;
   unfailed = refl;
   unended = refl;
+  output = refl;
+  first = refl;
 }
+
+pub read_some-requires : goal.read_some-requires
+read_some-requires g c =
+    let kept = c.bytes.invariant in
+    record {
+      piece = rw (kept.output, kept.first) (IsInPiece-taken c.requires.piece (stream c.bytes.ahead (g.C.Client.input c.bytes.client)).come kept.fed.bytes
+          (omega (arith, kept.fed.all, kept.within, c.bytes-test.true)) kept.fed.taken.bytes);
+    }
 
 pub returns-in_err-read_some-clause-error : goal.returns-in_err-read_some-clause-error
 returns-in_err-read_some-clause-error g c =
     let told = err_from_is_err_and c.from_residual.result c.from_residual.ensures.1 in
     rw (told.1, told.2) (λ before has.
-    IsPieceEnd-unread c.bytes.invariant.fed before c.args.size (g.I.Pull.state c.read_some.new.input) _ has (omega (arith, c.bytes.invariant.within, c.bytes-test.true))
+    IsPieceEnd-unread c.bytes.invariant.fed before c.args.size (g.C.Client.input c.read_some.new.client) _ has (omega (arith, c.bytes.invariant.within, c.bytes-test.true))
     c.in_err-read_some.ensures.error)
 
 pub returns-then-not-branch-clause-error : goal.returns-then-not-branch-clause-error
 returns-then-not-branch-clause-error g c = λ before has.
-    IsPieceEnd-cut c.bytes.invariant.fed before c.args.size (g.I.Pull.state c.read_some.new.input) has (omega (arith, c.bytes.invariant.within, c.bytes-test.true))
+    IsPieceEnd-cut c.bytes.invariant.fed before c.args.size (g.C.Client.input c.read_some.new.client) has (omega (arith, c.bytes.invariant.within, c.bytes-test.true))
     (c.in_ok-read_some.ensures.end c.if-not-branch.true)
 
 pub returns-in_err-feed-clause-error : goal.returns-in_err-feed-clause-error
@@ -37,14 +48,14 @@ returns-in_err-feed-clause-error g c =
     let ahead = c.read_some.new.self in
     let count = c.min-len.result in
     let fed = IsFed-read c.bytes.invariant.fed (c.in_ok-read_some.ensures.taken c.if-not-branch.false) in
-    rw (told.1, told.2) (λ before has. IsPieceEnd-decided fed before c.args.size ahead (g.I.Pull.state c.read_some.new.input) count _ refl
+    rw (told.1, told.2) (λ before has. IsPieceEnd-decided fed before c.args.size ahead (g.C.Client.input c.read_some.new.client) count _ refl
     (omega (arith, c.min-len.ensures, ap length c.unread.ensures)) (omega (arith, c.min-len.ensures, c.bytes.invariant.within)) (c.in_ok-read_some.ensures.near c.bytes.invariant.near) has
     (λ bytes read. subst (λ all. IsDecidedError (bytes ++ take count all) c.in_err-feed.field-0.0) c.unread-in-bytes.ensures (c.in_err-feed.ensures.decided bytes read)))
 
 pub bytes-preserved : goal.bytes-preserved
 bytes-preserved g c =
     let ahead = c.read_some.new.self in
-    let input = g.I.Pull.state c.read_some.new.input in
+    let input = g.C.Client.input c.read_some.new.client in
     let count = c.min-len.result in
     let piece = take count c.unread-in-bytes.result.now in
     let same : take count ahead.unread ≡ piece = ap (take count) (sym c.unread-in-bytes.ensures) in
@@ -61,9 +72,11 @@ bytes-preserved g c =
       near = omega (arith, left, length-drop count ahead.unread, c.in_ok-read_some.ensures.near c.bytes.invariant.near);
       unfailed = c.in_ok-read_some.ensures.unfailed ∙ c.bytes.invariant.unfailed;
       unended = c.in_ok-read_some.ensures.unended c.if-not-branch.false ∙ c.bytes.invariant.unended;
+      output = c.in_ok-read_some.ensures.output ∙ c.bytes.invariant.output;
+      first = c.in_ok-read_some.ensures.first ∙ c.bytes.invariant.first;
     }
 
 pub returns-clause-ok : goal.returns-clause-ok
 returns-clause-ok g c =
     let left : c.args.size - c.bytes.left ≡ c.args.size = omega (arith, c.bytes-test.false, c.bytes.invariant.within) in
-    subst (λ size. IsFed c.args.feed.now size (stream c.args.ahead.now (g.I.Pull.state c.args.input.now)) (stream c.bytes.ahead (g.I.Pull.state c.bytes.input)) c.bytes.feed) left c.bytes.invariant.fed
+    subst (λ size. IsFed c.args.feed.now size (stream c.args.ahead.now (g.C.Client.input c.args.client.now)) (stream c.bytes.ahead (g.C.Client.input c.bytes.client)) c.bytes.feed) left c.bytes.invariant.fed

@@ -10,17 +10,17 @@ use Rattle.live_history.proofs.replies.reply_to_queries.Goals as goal
 
 pub returns-then-most-eq0-clause-error : goal.returns-then-most-eq0-clause-error
 returns-then-most-eq0-clause-error g c = λ state is same input.
-    IsEndEarly-many state (omega (arith, same, c.requires.few_answered)) c.args.ahead.now input (g.O.Push.state c.args.output.now) c.requires.query c.requires.near (omega (arith, same, c.if-most-eq0.true, c.min-most.ensures, c.requires.some_worker))
+    IsEndEarly-many state (omega (arith, same, c.requires.few_answered)) c.args.ahead.now input (g.C.Client.output c.args.client.now) c.requires.query c.requires.near (omega (arith, same, c.if-most-eq0.true, c.min-most.ensures, c.requires.some_worker))
 
 pub returns-in_err-lines-clause-error : goal.returns-in_err-lines-clause-error
 returns-in_err-lines-clause-error g c =
     let told = err_from_is_err_and c.from_residual.result c.from_residual.ensures.1 in
-    rw (told.1, told.2) (λ state is same input. IsEndEarly-memory state (omega (arith, same, c.requires.few_answered)) c.args.ahead.now input (g.O.Push.state c.args.output.now))
+    rw (told.1, told.2) (λ state is same input. IsEndEarly-memory state (omega (arith, same, c.requires.few_answered)) c.args.ahead.now input (g.C.Client.output c.args.client.now))
 
 pub returns-in_err-text-clause-error : goal.returns-in_err-text-clause-error
 returns-in_err-text-clause-error g c =
     let told = err_from_is_err_and c.from_residual-in_err-text.result c.from_residual-in_err-text.ensures.1 in
-    rw (told.1, told.2) (λ state is same input. IsEndEarly-memory state (omega (arith, same, c.requires.few_answered)) c.args.ahead.now input (g.O.Push.state c.args.output.now))
+    rw (told.1, told.2) (λ state is same input. IsEndEarly-memory state (omega (arith, same, c.requires.few_answered)) c.args.ahead.now input (g.C.Client.output c.args.client.now))
 
 pub returns-in_err-send-clause-error : goal.returns-in_err-send-clause-error
 returns-in_err-send-clause-error g c =
@@ -30,8 +30,8 @@ returns-in_err-send-clause-error g c =
     let lines = lent_lines c.in_ok-lines.lines.items in
     let rest = c.in_ok-lines.rest.now in
     let are = subst (λ all. AreQueries all lines rest) c.unread.ensures c.in_ok-lines.ensures.queries in
-    let old = g.O.Push.state c.args.output.now in
-    let new = g.O.Push.state c.send.new.output in
+    let old = g.C.Client.output c.args.client.now in
+    let new = g.C.Client.output c.send.new.self in
     let cause = c.in_err-send.field-0.0 in
     rw (told.1, told.2) (λ state is same input.
     let text : c.as_slice-2.result.now ≡ replies dump state.answered lines =
@@ -66,8 +66,8 @@ returns-clause-ok g c = λ state is same input.
     let lines = lent_lines c.in_ok-lines.lines.items in
     let rest = c.in_ok-lines.rest.now in
     let are = subst (λ all. AreQueries all lines rest) c.unread.ensures c.in_ok-lines.ensures.queries in
-    let old = g.O.Push.state c.args.output.now in
-    let new = g.O.Push.state c.send.new.output in
+    let old = g.C.Client.output c.args.client.now in
+    let new = g.C.Client.output c.send.new.self in
     let text : c.as_slice-2.result.now ≡ replies dump state.answered lines =
     c.as_slice-2.ensures.value ∙ c.in_ok-text.ensures ∙ ap (λ all. replies dump c.args.answered.now (lent_lines all)) c.as_slice.ensures.value ∙ ap (λ n. replies dump n lines) (sym same) in
     AreRepliedTo-queries dump state is ahead input lines rest are c.take.new.self old.gone new (c.args.answered.now + c.len.result)

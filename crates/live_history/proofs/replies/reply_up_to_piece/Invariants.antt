@@ -10,13 +10,15 @@ use Rattle.live_history.proofs.replies.reply_up_to_piece.Given as goal
 abbrev pub invariant-turns : goal.invariant-turns
 invariant-turns g l = record {
   replied : (state : TalkState) → IsLawfulDump state.dump (history_in_bytes l.fn.repo) → state.answered ≡ l.fn.answered
-      → AreRepliedTo state (stream l.fn.ahead (g.I.Pull.state l.fn.input)) (g.O.Push.state l.fn.output).gone (stream l.ahead (g.I.Pull.state l.input)) (g.O.Push.state l.output) l.answered;
-  flushed : IsTrue (g.O.Push.state l.fn.output).is_flushed → IsTrue (g.O.Push.state l.output).is_flushed;
-  sound : IsFalse (g.O.Push.state l.fn.output).has_failed → IsFalse (g.O.Push.state l.output).has_failed;
+      → AreRepliedTo state (stream l.fn.ahead (g.C.Client.input l.fn.client)) (g.C.Client.output l.fn.client).gone (stream l.ahead (g.C.Client.input l.client)) (g.C.Client.output l.client) l.answered;
+  flushed : IsTrue (g.C.Client.output l.fn.client).is_flushed → IsTrue (g.C.Client.output l.client).is_flushed;
+  sound : IsFalse (g.C.Client.output l.fn.client).has_failed → IsFalse (g.C.Client.output l.client).has_failed;
   few : l.answered ≤ most_answered;
   less : room l.ahead ≤ room l.fn.ahead;
-  unfailed : (g.I.Pull.state l.input).failures ≡ (g.I.Pull.state l.fn.input).failures;
-  unended : (g.I.Pull.state l.input).ends ≡ (g.I.Pull.state l.fn.input).ends;
+  unfailed : (g.C.Client.input l.client).failures ≡ (g.C.Client.input l.fn.client).failures;
+  unended : (g.C.Client.input l.client).ends ≡ (g.C.Client.input l.fn.client).ends;
+  sent_all : (g.C.Client.output l.client).failures ≡ (g.C.Client.output l.fn.client).failures;
+  first : g.C.Client.first l.client ≡ g.C.Client.first l.fn.client;
 }
 
 abbrev pub decreases-turns : goal.decreases-turns

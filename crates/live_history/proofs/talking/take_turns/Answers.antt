@@ -8,6 +8,7 @@ use Rattle.live_history.specs.Talk.{TalkState, after_turns}
 use Rattle.live_history.specs.Talking.{IsAfterPiece}
 use Rattle.live_history.proofs.Ends.{AreAllReplied-more, IsEndEarly-more}
 use Rattle.live_history.proofs.Ongoing.{IsAfterPiece-more, IsAfterPiece-none}
+use Rattle.live_history.proofs.Waiting.{IsCaughtUp-piece}
 use Rattle.live_history.proofs.talking.take_turns.Goals as goal
 
 -- what holds where there is none
@@ -18,8 +19,8 @@ none-of P (Some x) not is = absurd (not x refl)
 pub pieces-init : goal.pieces-init
 pieces-init g c = record {
   after = λ state is same.
-      let old = stream c.args.ahead.now (g.I.Pull.state c.args.input.now) in
-      let sent = g.O.Push.state c.args.output.now in
+      let old = stream c.args.ahead.now (g.C.Client.input c.args.client.now) in
+      let sent = g.C.Client.output c.args.client.now in
       subst (λ n. IsAfterPiece state old sent.gone old sent n c.args.history) same (IsAfterPiece-none state old sent c.args.history is);
   whole = c.requires.whole;
   few = c.requires.few;
@@ -28,7 +29,14 @@ pieces-init g c = record {
   sound = λ is. is;
   unfailed = refl;
   unended = refl;
+  sent_all = refl;
+  first = refl;
 }
+
+pub take_piece-requires-clause-replied : goal.take_piece-requires-clause-replied
+take_piece-requires-clause-replied g c κs within =
+    let kept = c.pieces.invariant in
+    rw kept.first (IsCaughtUp-piece c.requires.replied refl kept.after (kept.flushed c.requires.replied.replied.flushed))
 
 pub returns-in_err-grown-clause-error : goal.returns-in_err-grown-clause-error
 returns-in_err-grown-clause-error g c =
@@ -45,14 +53,14 @@ returns-in_err-grown-clause-kept g c =
 pub pieces-preserved : goal.pieces-preserved
 pieces-preserved g c =
     let found = c.in_ok-grown.ensures in
-    let new = stream c.take_piece.new.ahead (g.I.Pull.state c.take_piece.new.input) in
-    let sent = g.O.Push.state c.take_piece.new.output in
+    let new = stream c.take_piece.new.ahead (g.C.Client.input c.take_piece.new.client) in
+    let sent = g.C.Client.output c.take_piece.new.client in
     let few = subst (λ next. IfSome next (λ grown. grown.paused.count + room c.take_piece.new.ahead ≤ c.pieces.history.paused.count + room c.pieces.ahead)) c.in-Some.is found.few in
     record {
       after = λ state is same.
           let first = c.pieces.invariant.after state is same in
           let taken = subst (λ next. IfSome next (λ grown. (later : TalkState) → IsHistoryOf later.dump c.pieces.history → later.answered ≡ c.pieces.answered
-          → IsAfterPiece later (stream c.pieces.ahead (g.I.Pull.state c.pieces.input)) (g.O.Push.state c.pieces.output).gone new sent c.take_piece.new.answered grown)) c.in-Some.is found.taken in
+          → IsAfterPiece later (stream c.pieces.ahead (g.C.Client.input c.pieces.client)) (g.C.Client.output c.pieces.client).gone new sent c.take_piece.new.answered grown)) c.in-Some.is found.taken in
           IsAfterPiece-more first (taken (after_turns state first.turns) first.history_is first.answered_is);
       whole = subst (λ next. IfSome next (λ grown. IsWholeHistory grown.repo)) c.in-Some.is found.whole;
       few = omega (arith, few, c.pieces.invariant.few);
@@ -60,7 +68,9 @@ pieces-preserved g c =
       flushed = λ is. found.flushed (c.pieces.invariant.flushed is);
       sound = λ is. found.sound (c.pieces.invariant.sound is);
       unfailed = found.unfailed ∙ c.pieces.invariant.unfailed;
-      unended = subst (λ next. IfSome next (λ grown. (g.I.Pull.state c.take_piece.new.input).ends ≡ (g.I.Pull.state c.pieces.input).ends)) c.in-Some.is found.unended ∙ c.pieces.invariant.unended;
+      unended = subst (λ next. IfSome next (λ grown. (g.C.Client.input c.take_piece.new.client).ends ≡ (g.C.Client.input c.pieces.client).ends)) c.in-Some.is found.unended ∙ c.pieces.invariant.unended;
+      sent_all = found.sent_all ∙ c.pieces.invariant.sent_all;
+      first = found.first ∙ c.pieces.invariant.first;
     }
 
 pub returns-clause-ok : goal.returns-clause-ok

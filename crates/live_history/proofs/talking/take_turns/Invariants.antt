@@ -11,14 +11,16 @@ use Rattle.live_history.proofs.talking.take_turns.Given as goal
 abbrev pub invariant-pieces : goal.invariant-pieces
 invariant-pieces g l = record {
   after : (state : TalkState) → IsHistoryOf state.dump l.fn.history → state.answered ≡ 0
-      → IsAfterPiece state (stream l.fn.ahead (g.I.Pull.state l.fn.input)) (g.O.Push.state l.fn.output).gone (stream l.ahead (g.I.Pull.state l.input)) (g.O.Push.state l.output) l.answered l.history;
+      → IsAfterPiece state (stream l.fn.ahead (g.C.Client.input l.fn.client)) (g.C.Client.output l.fn.client).gone (stream l.ahead (g.C.Client.input l.client)) (g.C.Client.output l.client) l.answered l.history;
   whole : IsWholeHistory l.history.repo;
   few : l.history.paused.count + room l.ahead < 2 ^ 64;
   few_answered : l.answered ≤ most_answered;
-  unfailed : (g.I.Pull.state l.input).failures ≡ (g.I.Pull.state l.fn.input).failures;
-  unended : (g.I.Pull.state l.input).ends ≡ (g.I.Pull.state l.fn.input).ends;
-  flushed : IsTrue (g.O.Push.state l.fn.output).is_flushed → IsTrue (g.O.Push.state l.output).is_flushed;
-  sound : IsFalse (g.O.Push.state l.fn.output).has_failed → IsFalse (g.O.Push.state l.output).has_failed;
+  unfailed : (g.C.Client.input l.client).failures ≡ (g.C.Client.input l.fn.client).failures;
+  unended : (g.C.Client.input l.client).ends ≡ (g.C.Client.input l.fn.client).ends;
+  sent_all : (g.C.Client.output l.client).failures ≡ (g.C.Client.output l.fn.client).failures;
+  first : g.C.Client.first l.client ≡ g.C.Client.first l.fn.client;
+  flushed : IsTrue (g.C.Client.output l.fn.client).is_flushed → IsTrue (g.C.Client.output l.client).is_flushed;
+  sound : IsFalse (g.C.Client.output l.fn.client).has_failed → IsFalse (g.C.Client.output l.client).has_failed;
 }
 
 abbrev pub decreases-pieces : goal.decreases-pieces

@@ -1,6 +1,11 @@
-use Rattle.std.proofs.Common.{Result, Ok, Err, refl}
+use Rattle.std.proofs.Common.{Result, Ok, Err, refl, subst}
 use Rattle.std.specs.Prelude.{IfErr, OnOk}
+use Rattle.std.specs.Io.KnownBytes.{prepend_known}
+use Rattle.svn_dump.specs.Dump.{history_in_bytes}
+use Rattle.live_history.specs.History.{IsHistoryOf}
 use Rattle.live_history.specs.Talk.{start_of}
+use Rattle.live_history.specs.TalkEnd.{IsTalkError, IsWholeTalk}
+use Rattle.live_history.proofs.Waiting.{Consumes-none, IsCaughtUp-ready}
 use Rattle.live_history.proofs.WholeTalks.{IsTalkError-said, IsTalkError-unsaid, IsWholeTalk-said}
 use Rattle.live_history.proofs.talking.talk.Goals as goal
 
@@ -13,15 +18,27 @@ if_err : {T E : Type 0} {P Q R : E → Type 0} (result : Result T E) → ((error
 if_err (Ok done) follows p q = tt
 if_err (Err error) follows p q = follows error p q
 
+pub take_turns-requires-clause-replied : goal.take_turns-requires-clause-replied
+take_turns-requires-clause-replied g c κs within =
+    let from = c.in_ok-history.ensures.ok in
+    let history = c.in_ok-history.history in
+    let input = g.C.Client.input c.args.client.now in
+    let output = g.C.Client.output c.args.client.now in
+    let ahead = c.in_ok-ahead in
+    rw (c.say_ready.ensures.first, c.requires.new, c.say_ready.ensures.input)
+    (IsCaughtUp-ready (record { input = input; output = output }) (g.C.Client.output c.say_ready.new.client) (prepend_known ahead.ahead.unread input.left) from.bytes (history_in_bytes history.repo) (λ dump. IsHistoryOf dump history) from.is.dump from.is
+    (Consumes-none ahead.ahead.unread input.left ahead.ensures.unread) c.in-Ok.ensures.said c.in-Ok.ensures.flushed)
+
 pub returns-in-Ok-clause-ok : goal.returns-in-Ok-clause-ok
 returns-in-Ok-clause-ok g c =
     let from = c.in_ok-history.ensures.ok in
     let ahead = c.in_ok-ahead in
     on_ok c.take_turns.result
     (λ talk flushed sound.
-    IsWholeTalk-said (g.D.Pull.state c.args.dump.now) (g.D.Pull.state c.read.new.dump) (g.I.Pull.state c.args.input.now) (g.O.Push.state c.args.output.now) c.in_ok-history.history from
-    (g.O.Push.state c.say_ready.new.output) c.in-Ok.ensures.said ahead.ahead ahead.ensures.unread ahead.ensures.reads (g.I.Pull.state c.take_turns.new.input) (g.O.Push.state c.take_turns.new.output)
-    (talk (start_of from.bytes) from.is refl) (flushed c.in-Ok.ensures.flushed) (sound c.in-Ok.ensures.sound))
+    subst (λ input. IsWholeTalk (g.D.Pull.state c.args.dump.now) (g.D.Pull.state c.read.new.dump) input (g.C.Client.input c.take_turns.new.client) (g.C.Client.output c.args.client.now) (g.C.Client.output c.take_turns.new.client)) c.say_ready.ensures.input
+    (IsWholeTalk-said (g.D.Pull.state c.args.dump.now) (g.D.Pull.state c.read.new.dump) (g.C.Client.input c.say_ready.new.client) (g.C.Client.output c.args.client.now) c.in_ok-history.history from
+    (g.C.Client.output c.say_ready.new.client) c.in-Ok.ensures.said ahead.ahead ahead.ensures.unread ahead.ensures.reads (g.C.Client.input c.take_turns.new.client) (g.C.Client.output c.take_turns.new.client)
+    (talk (start_of from.bytes) from.is refl) (flushed c.in-Ok.ensures.flushed) (sound c.in-Ok.ensures.sound)))
     c.take_turns.ensures.ok c.take_turns.ensures.flushed c.take_turns.ensures.sound
 
 pub returns-in-Ok-clause-error : goal.returns-in-Ok-clause-error
@@ -30,12 +47,13 @@ returns-in-Ok-clause-error g c =
     let ahead = c.in_ok-ahead in
     if_err c.take_turns.result
     (λ error talk kept.
-    IsTalkError-said (g.D.Pull.state c.args.dump.now) (g.D.Pull.state c.read.new.dump) (g.I.Pull.state c.args.input.now) (g.O.Push.state c.args.output.now) c.in_ok-history.history from
-    (g.O.Push.state c.say_ready.new.output) c.in-Ok.ensures.said ahead.ahead ahead.ensures.unread ahead.ensures.reads (g.I.Pull.state c.take_turns.new.input) (g.O.Push.state c.take_turns.new.output)
-    error (talk (start_of from.bytes) from.is refl) (kept c.in-Ok.ensures.flushed c.in-Ok.ensures.sound))
+    subst (λ input. IsTalkError (g.D.Pull.state c.args.dump.now) (g.D.Pull.state c.read.new.dump) input (g.C.Client.input c.take_turns.new.client) (g.C.Client.output c.args.client.now) (g.C.Client.output c.take_turns.new.client) error) c.say_ready.ensures.input
+    (IsTalkError-said (g.D.Pull.state c.args.dump.now) (g.D.Pull.state c.read.new.dump) (g.C.Client.input c.say_ready.new.client) (g.C.Client.output c.args.client.now) c.in_ok-history.history from
+    (g.C.Client.output c.say_ready.new.client) c.in-Ok.ensures.said ahead.ahead ahead.ensures.unread ahead.ensures.reads (g.C.Client.input c.take_turns.new.client) (g.C.Client.output c.take_turns.new.client)
+    error (talk (start_of from.bytes) from.is refl) (kept c.in-Ok.ensures.flushed c.in-Ok.ensures.sound)))
     c.take_turns.ensures.error c.take_turns.ensures.kept
 
 pub returns-clause-error : goal.returns-clause-error
 returns-clause-error g c =
-    IsTalkError-unsaid (g.D.Pull.state c.args.dump.now) (g.D.Pull.state c.read.new.dump) (g.I.Pull.state c.args.input.now) (g.O.Push.state c.args.output.now) c.in_ok-history.history c.in_ok-history.ensures.ok
-    (g.O.Push.state c.say_ready.new.output) c.in-Err.e c.in-Err.ensures.error
+    rw c.say_ready.ensures.input (IsTalkError-unsaid (g.D.Pull.state c.args.dump.now) (g.D.Pull.state c.read.new.dump) (g.C.Client.input c.args.client.now) (g.C.Client.output c.args.client.now) c.in_ok-history.history c.in_ok-history.ensures.ok
+    (g.C.Client.output c.say_ready.new.client) c.in-Err.e c.in-Err.ensures.error)

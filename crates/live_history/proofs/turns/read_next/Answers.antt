@@ -22,14 +22,14 @@ returns-in-None-clause-next g c =
         },
       ),
       subst (λ len. IfSome len (λ _. AreNear c.read_line.new.self.unread)) c.in-Some.is c.in_ok-len.ensures.near,
-      subst (λ len. IfSome len (λ _. AreTaken (stream c.args.ahead.now (g.I.Pull.state c.args.input.now)) (stream c.read_line.new.self (g.I.Pull.state c.read_line.new.input)) [])) c.in-Some.is c.in_ok-len.ensures.taken,
+      subst (λ len. IfSome len (λ _. AreTaken (stream c.args.ahead.now (g.C.Client.input c.args.client.now)) (stream c.read_line.new.self (g.C.Client.input c.read_line.new.client)) [])) c.in-Some.is c.in_ok-len.ensures.taken,
     )
 
 pub returns-in-Some-piece_size-clause-next : goal.returns-in-Some-piece_size-clause-next
 returns-in-Some-piece_size-clause-next g c =
     let ahead = c.read_line.new.self in
-    let input = g.I.Pull.state c.read_line.new.input in
-    let old = stream c.args.ahead.now (g.I.Pull.state c.args.input.now) in
+    let input = g.C.Client.input c.read_line.new.client in
+    let old = stream c.args.ahead.now (g.C.Client.input c.args.client.now) in
     let found = subst (λ len. IfSome len (HasLine ahead.unread)) c.in-Some.is c.in_ok-len.ensures.line in
     let line : take c.in-Some.len c.unread.result.now ≡ found.line = ap (take c.in-Some.len) c.unread.ensures ∙ HasLine-take ahead.unread c.in-Some.len found in
     let piece = subst (λ each. IsPieceLine each c.in-Some-piece_size.size) line c.in-Some-piece_size.ensures.piece in

@@ -22,7 +22,7 @@ returns-in_err-dump-clause-error g c =
     let fed = c.in_ok-feed_piece.ensures.ok in
     rw (told.1, told.2) (λ before is.
     let read = c.resume-feed.ensures.read before (subst (λ dump. IsPausedAt c.args.self.paused dump before) (sym c.into_parts-dump.ensures.dump) is.paused) in
-    IsPieceEnd-refused c.feed_piece.new.ahead (g.I.Pull.state c.feed_piece.new.input) fed c.in_ok-feed_piece.ensures.near before c.in_err-dump.field-0.0 read (c.in_err-dump.ensures.refused (before ++ fed.bytes) (fed.read before read)))
+    IsPieceEnd-refused c.feed_piece.new.ahead (g.C.Client.input c.feed_piece.new.client) fed c.in_ok-feed_piece.ensures.near before c.in_err-dump.field-0.0 read (c.in_err-dump.ensures.refused (before ++ fed.bytes) (fed.read before read)))
 
 pub returns-in_err-repo-clause-error : goal.returns-in_err-repo-clause-error
 returns-in_err-repo-clause-error g c =
@@ -30,7 +30,7 @@ returns-in_err-repo-clause-error g c =
     let fed = c.in_ok-feed_piece.ensures.ok in
     rw (told.1, told.2) (λ before is.
     let read = c.resume-feed.ensures.read before (subst (λ dump. IsPausedAt c.args.self.paused dump before) (sym c.into_parts-dump.ensures.dump) is.paused) in
-    IsPieceEnd-load c.feed_piece.new.ahead (g.I.Pull.state c.feed_piece.new.input) fed c.in_ok-feed_piece.ensures.near before c.in_ok-dump.dump c.in_err-repo.field-0.0
+    IsPieceEnd-load c.feed_piece.new.ahead (g.C.Client.input c.feed_piece.new.client) fed c.in_ok-feed_piece.ensures.near before c.in_ok-dump.dump c.in_err-repo.field-0.0
     (c.in_ok-dump.ensures.ok (before ++ fed.bytes) (fed.read before read)) c.in_err-repo.ensures.faulty)
 
 pub returns-clause-ok : goal.returns-clause-ok

@@ -5,10 +5,12 @@ use Rattle.live_history.proofs.read_ahead.ReadAhead.read_line.Given as goal
 
 abbrev pub invariant-reads : goal.invariant-reads
 invariant-reads g l = record {
-  taken : AreTaken (stream l.fn.self (g.I.Pull.state l.fn.input)) (stream l.self (g.I.Pull.state l.input)) [];
+  taken : AreTaken (stream l.fn.self (g.C.Client.input l.fn.client)) (stream l.self (g.C.Client.input l.client)) [];
   room : room l.self ≤ room l.fn.self;
-  unfailed : (g.I.Pull.state l.input).failures ≡ (g.I.Pull.state l.fn.input).failures;
-  unended : (g.I.Pull.state l.input).ends ≡ (g.I.Pull.state l.fn.input).ends;
+  unfailed : (g.C.Client.input l.client).failures ≡ (g.C.Client.input l.fn.client).failures;
+  unended : (g.C.Client.input l.client).ends ≡ (g.C.Client.input l.fn.client).ends;
+  output : g.C.Client.output l.client ≡ g.C.Client.output l.fn.client;
+  first : g.C.Client.first l.client ≡ g.C.Client.first l.fn.client;
 }
 
 abbrev pub decreases-reads : goal.decreases-reads
