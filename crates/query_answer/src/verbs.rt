@@ -20,6 +20,7 @@ use crate::query::Query;
 use crate::repo::Repo;
 use crate::status::Status;
 use crate::unanswered::Unanswered;
+use pair::{Choice, answer_pair};
 use std::alloc::{AllocError, Global};
 use value_memo::{Memo, Seen};
 
@@ -69,10 +70,19 @@ fn answer_verb<'r>(
         Query::Log { of, range } => log::answer_log(alloc, repo, of, *range),
         Query::Mergeinfo { of } => mergeinfo::answer_mergeinfo(alloc, repo, of, memo, seen),
         Query::Merged { of, target, range } => {
-            merged::answer_merged(alloc, repo, of, target, *range, memo, seen)
+            answer_pair(alloc, repo, of, target, Choice::Merged, *range, memo, seen)
         }
         Query::Eligible { of, target, range } => {
-            eligible::answer_eligible(alloc, repo, of, target, *range, memo, seen)
+            answer_pair(
+                alloc,
+                repo,
+                of,
+                target,
+                Choice::Eligible,
+                *range,
+                memo,
+                seen,
+            )
         }
     }
 }

@@ -4,47 +4,23 @@ ghost use Rattle.svn_text.specs.Appended.{BeginsWith};
 ghost use Rattle.svn_text.specs.Line.{line_text};
 ghost use Rattle.query_answer.specs.Answer.{merged_line};
 ghost use Rattle.query_answer.specs.SourceHits.{has_in, merged_by_hits};
-ghost use Rattle.query_answer.specs.Repo.{IsPathIn, merged_answer, merged_by, held_answer, peg_text};
+ghost use Rattle.query_answer.specs.Repo.{IsPathIn, merged_by, held_answer};
 ghost use Rattle.query_answer.specs.Held.{IsHeldIn};
 ghost use Rattle.query_answer.specs.Unanswered.{HasAnswer};
-ghost use Rattle.query_answer.specs.Worker.{IsSeenOf, LooksAtMergeinfo, Reads};
+ghost use Rattle.query_answer.specs.Worker.{LooksAtMergeinfo};
 
-use super::pair::{Pair, target_mergeinfo};
+use super::pair::Pair;
 use super::source::SourceRanges;
-use crate::answers::Answer;
+use crate::answers::{Answer, MergedRevision};
 use crate::held_mergeinfo::HeldMergeinfo;
-use crate::merged_revision::MergedRevision;
-use crate::peg::Peg;
 use crate::repo::Repo;
 use crate::unanswered::Unanswered;
-use merge_info::MergeInfo;
 use path_index::{Hit, RevisionRange};
 use std::alloc::{AllocError, Global};
 use svn_text::push_number;
-use value_memo::{Memo, Seen};
-
-/// The revisions of a source that were merged into a target, in this range if there is one.
-pub(crate) fn answer_merged<'r>(
-    alloc: Global,
-    repo: &'r Repo,
-    source: &Peg<'_>,
-    target: &Peg<'_>,
-    range: Option<RevisionRange>,
-    memo: &Memo<'r>,
-    seen: &mut Seen<'r>,
-) -> Result<Answer, Unanswered>
-    requires seen { IsSeenOf repo.now.values memo.now seen.old }
-    ensures answer { HasAnswer repo.now (merged_answer repo.now source.now target.now range) result }
-    ensures worker { Reads repo.now memo.now (peg_text repo.now target.now) result seen.old seen.new }
-{
-    let pair = Pair::find(alloc, repo, source, target)?;
-    let empty = MergeInfo::empty(alloc);
-    let held = target_mergeinfo(seen, memo, repo, &pair.target, &empty)?;
-    merged_revisions(alloc, repo, &pair, range, &held)
-}
 
 /// The merged revisions of a pair in rising order, given the mergeinfo that the target holds.
-fn merged_revisions(
+pub(crate) fn merged_revisions(
     alloc: Global,
     repo: &Repo,
     pair: &Pair,

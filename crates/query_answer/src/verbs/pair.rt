@@ -1,22 +1,35 @@
-//! A source and a target.
+//! A source and a target, and what is asked of them.
 ghost use Rattle.std.specs.Prelude.{◌≡◌, [], Some, IfErr, IfOk};
 ghost use Rattle.std.specs.Borrow.{sem};
 ghost use Rattle.query_answer.specs.Held.{IsHeldIn, held_value};
 ghost use Rattle.query_answer.specs.NearestValue.{ends_held, text_found};
-ghost use Rattle.query_answer.specs.Repo.{IsMergeinfoRefused, IsNearestIn, IsPair, IsPairRefused, IsPathIn, effective_in};
-ghost use Rattle.query_answer.specs.Worker.{IsSeenOf};
+ghost use Rattle.query_answer.specs.Repo.{IsMergeinfoRefused, IsNearestIn, IsPair, IsPairRefused, IsPathIn, chosen_by, effective_in, held_answer, pair_answer, peg_text};
+ghost use Rattle.query_answer.specs.Unanswered.{HasAnswer};
+ghost use Rattle.query_answer.specs.Worker.{IsSeenOf, LooksAtMergeinfo, Reads};
 
+use super::eligible::eligible_revisions;
+use super::merged::merged_revisions;
+use crate::answers::Answer;
 use crate::held_mergeinfo::HeldMergeinfo;
 use crate::nearest_value::nearest_value;
-use crate::path_rev::PathRev;
 use crate::peg::Peg;
 use crate::repo::Repo;
 use crate::status::Status;
-use crate::target::Target;
+use crate::target::{PathRev, Target};
 use crate::unanswered::Unanswered;
 use merge_info::MergeInfo;
+use path_index::RevisionRange;
 use std::alloc::Global;
 use value_memo::{Memo, Parsed, Seen};
+
+/// Which revisions of a source are asked for.
+#[derive(Clone, Copy, Debug)]
+pub(crate) enum Choice {
+    /// Those that were merged into the target.
+    Merged,
+    /// Those that are still to be merged into the target.
+    Eligible,
+}
 
 /// What two pegs name.
 #[derive(Drop)]
@@ -63,5 +76,48 @@ pub(crate) fn target_mergeinfo<'a, 'r>(
     match nearest_value(seen, memo, repo, target.nearest, empty)? {
         Parsed::Good(value) => Ok(HeldMergeinfo::new(value, target.rest())),
         Parsed::Malformed => Err(Unanswered::Refused(Status::MalformedMergeinfo)),
+    }
+}
+
+/// The chosen revisions of a source with regard to a target, in this range if there is one.
+pub(crate) fn answer_pair<'r>(
+    alloc: Global,
+    repo: &'r Repo,
+    source: &Peg<'_>,
+    target: &Peg<'_>,
+    choice: Choice,
+    range: Option<RevisionRange>,
+    memo: &Memo<'r>,
+    seen: &mut Seen<'r>,
+) -> Result<Answer, Unanswered>
+    requires seen { IsSeenOf repo.now.values memo.now seen.old }
+    ensures answer { HasAnswer repo.now (pair_answer repo.now source.now target.now choice range) result }
+    ensures worker { Reads repo.now memo.now (peg_text repo.now target.now) result seen.old seen.new }
+{
+    let pair = Pair::find(alloc, repo, source, target)?;
+    let empty = MergeInfo::empty(alloc);
+    let held = target_mergeinfo(seen, memo, repo, &pair.target, &empty)?;
+    chosen_revisions(alloc, repo, &pair, choice, range, &held)
+}
+
+/// The chosen revisions of a pair in rising order, given the mergeinfo that the target holds.
+fn chosen_revisions(
+    alloc: Global,
+    repo: &Repo,
+    pair: &Pair,
+    choice: Choice,
+    range: Option<RevisionRange>,
+    held: &HeldMergeinfo<'_, '_>,
+) -> Result<Answer, Unanswered>
+    requires source { IsPathIn repo.now pair.now.source }
+    requires target { IsPathIn repo.now pair.now.target.at }
+    requires held { IsHeldIn repo.now.names held.now }
+    ensures answer { HasAnswer repo.now
+        (held_answer repo.now pair.now held.now (chosen_by repo.now choice range)) result }
+    ensures found { LooksAtMergeinfo result }
+{
+    match choice {
+        Choice::Merged => merged_revisions(alloc, repo, pair, range, held),
+        Choice::Eligible => eligible_revisions(alloc, repo, pair, range, held),
     }
 }

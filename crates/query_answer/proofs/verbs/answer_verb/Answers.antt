@@ -47,9 +47,9 @@ returns-in-Mergeinfo c =
 pub returns-in-Merged : goal.returns-in-Merged
 returns-in-Merged c =
     let dump = c.args.repo.now in
-    rw (c.in-Merged.is, answer_of-merged (history_in_bytes dump) (trees_in_bytes dump) (peg_view c.in-Merged.of) (peg_view c.in-Merged.target) c.in-Merged.range) c.answer_merged.ensures
+    rw (c.in-Merged.is, answer_of-merged (history_in_bytes dump) (trees_in_bytes dump) (peg_view c.in-Merged.of) (peg_view c.in-Merged.target) c.in-Merged.range) c.answer_pair.ensures
 
 pub returns-in-Eligible : goal.returns-in-Eligible
 returns-in-Eligible c =
     let dump = c.args.repo.now in
-    rw (c.in-Eligible.is, answer_of-eligible (history_in_bytes dump) (trees_in_bytes dump) (peg_view c.in-Eligible.of) (peg_view c.in-Eligible.target) c.in-Eligible.range) c.answer_eligible.ensures
+    rw (c.in-Eligible.is, answer_of-eligible (history_in_bytes dump) (trees_in_bytes dump) (peg_view c.in-Eligible.of) (peg_view c.in-Eligible.target) c.in-Eligible.range) c.answer_pair-in-Eligible.ensures

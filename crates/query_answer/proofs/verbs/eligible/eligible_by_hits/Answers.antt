@@ -1,6 +1,6 @@
 use Rattle.std.proofs.Common.{ℕ, [], ◌++◌, Global, Some, None, Vec, append-nil, ap, get_or, if◌then◌else◌, sym, ◌∙◌}
 use Rattle.std.specs.List.{cons_option}
-use Rattle.path_index.specs.declared.hit.Hit.{Hit}
+use Rattle.path_index.specs.declared.segment.Hit.{Hit}
 use Rattle.query_answer.specs.SourceHits.{eligible_by_hit, has_in}
 use Rattle.query_answer.proofs.OperativeLocations.{filter_map_more}
 use Rattle.query_answer.proofs.verbs.eligible.eligible_by_hits.Goals as goal

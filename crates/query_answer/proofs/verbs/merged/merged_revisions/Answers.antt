@@ -6,7 +6,7 @@ use Rattle.query_answer.specs.Held.{held_ranges_in, held_value}
 use Rattle.query_answer.specs.HeldValue.{own_or_below}
 use Rattle.query_answer.specs.Repo.{AreHitsIn, peg_in_bytes, trees_in_bytes}
 use Rattle.query_answer.specs.SourceHits.{has_in, lent_ranges, merged_by_hits}
-use Rattle.query_answer.specs.declared.merged_revision.MergedRevision.{MergedRevision}
+use Rattle.query_answer.specs.declared.answers.MergedRevision.{MergedRevision}
 use Rattle.query_answer.proofs.HeldRevisions.{own_or_below-empty}
 use Rattle.query_answer.proofs.SourceRevisions.{has_in-held, merged_by_hits-in_range, merged_in_range-empty}
 use Rattle.query_answer.proofs.verbs.merged.merged_revisions.Goals as goal

@@ -1,16 +1,16 @@
 use Rattle.std.proofs.lemmas.Result.{err_from_is_err_and}
-use Rattle.query_answer.specs.Repo.{merged_by}
+use Rattle.query_answer.specs.Repo.{chosen_by}
 use Rattle.query_answer.proofs.AnswerTexts.{HasAnswer-held, HasAnswer-mergeinfo_refused, HasAnswer-pair_refused}
 use Rattle.query_answer.proofs.EffectiveValues.{nearest_text-target}
 use Rattle.query_answer.proofs.WorkersSeen.{Reads-known, Reads-pair_refused}
-use Rattle.query_answer.proofs.verbs.merged.answer_merged.Goals as goal
+use Rattle.query_answer.proofs.verbs.pair.answer_pair.Goals as goal
 
 pub returns-in_err-pair : goal.returns-in_err-pair
 returns-in_err-pair c =
     let dump = c.args.repo.now in
     let (error, errs, same) = err_from_is_err_and c.from_residual.result c.from_residual.ensures.1 in
     record {
-      answer = rw (errs, same) (HasAnswer-pair_refused dump c.args.source.now c.args.target.now c.in_err-pair.field-0.0 c.in_err-pair.ensures.refused (merged_by dump c.args.range));
+      answer = rw (errs, same) (HasAnswer-pair_refused dump c.args.source.now c.args.target.now c.in_err-pair.field-0.0 c.in_err-pair.ensures.refused (chosen_by dump c.args.choice c.args.range));
       worker = rw (errs, same) (Reads-pair_refused dump c.args.memo.now _ c.args.seen.now c.requires.seen c.args.source.now c.args.target.now c.in_err-pair.field-0.0 c.in_err-pair.ensures.refused);
     }
 
@@ -20,7 +20,7 @@ returns-in_err-held c =
     let found = c.in_ok-pair.ensures.found in
     let (error, errs, same) = err_from_is_err_and c.from_residual-in_err-held.result c.from_residual-in_err-held.ensures.1 in
     record {
-      answer = rw (errs, same) (HasAnswer-mergeinfo_refused dump c.args.source.now c.args.target.now c.in_ok-pair.pair found (merged_by dump c.args.range) c.in_err-held.field-0.0 c.in_err-held.ensures.refused);
+      answer = rw (errs, same) (HasAnswer-mergeinfo_refused dump c.args.source.now c.args.target.now c.in_ok-pair.pair found (chosen_by dump c.args.choice c.args.range) c.in_err-held.field-0.0 c.in_err-held.ensures.refused);
       worker = rw (nearest_text-target dump c.args.target.now c.in_ok-pair.pair.target found.target_is, errs, same) (rw c.in_err-held.was at c.target_mergeinfo.follows.holds-at-none);
     }
 
@@ -30,9 +30,9 @@ returns c =
     let pair = c.in_ok-pair.pair in
     let found = c.in_ok-pair.ensures.found in
     let told = rw c.in_ok-held.was at c.target_mergeinfo.follows.holds-at-none in
-    let revisions = c.merged_revisions in
+    let revisions = c.chosen_revisions in
     record {
-      answer = HasAnswer-held dump c.args.source.now c.args.target.now pair found (merged_by dump c.args.range) c.in_ok-held.held c.in_ok-held.ensures.value revisions.result revisions.ensures.answer;
+      answer = HasAnswer-held dump c.args.source.now c.args.target.now pair found (chosen_by dump c.args.choice c.args.range) c.in_ok-held.held c.in_ok-held.ensures.value revisions.result revisions.ensures.answer;
       worker = rw (nearest_text-target dump c.args.target.now pair.target found.target_is)
           (Reads-known dump c.args.memo.now _ c.args.seen.now _ told.0 revisions.result revisions.ensures.found told.1);
     }
