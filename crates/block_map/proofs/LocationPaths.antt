@@ -11,7 +11,7 @@ use Rattle.block_map.specs.Locations.{AddsBelow, AreAfterThoseAbove, IsLocationB
 use Rattle.block_map.specs.ChildMaps.{Extends}
 use Rattle.block_map.specs.declared.trie.location.Location.{Location}
 use Rattle.block_map.specs.declared.trie.location.LocationId.{LocationId}
-use Rattle.block_map.specs.declared.trie.stored_location.StoredLocation.{StoredLocation}
+use Rattle.block_map.specs.declared.trie.location.StoredLocation.{StoredLocation}
 use Rattle.block_map.proofs.GrownTries.{Extends-again, Extends-none, slice_get-grown, slice_get-last}
 
 -- one more is added with its whole path

@@ -10,7 +10,7 @@ use Rattle.block_map.specs.Map.{HasNoneFrom, IsNearestOrNone, nearest_view}
 use Rattle.block_map.specs.Standing.{Standing, entry_view, mergeinfo_of, standing_of}
 use Rattle.block_map.specs.Trie.{LookOfNumbers}
 use Rattle.block_map.specs.declared.entry.Entry.{Entry}
-use Rattle.block_map.specs.declared.nearest.Nearest.{Nearest}
+use Rattle.block_map.specs.declared.entry.Nearest.{Nearest}
 
 -- none of the first components has any
 abbrev pub HasNoneUpTo : (List NameId → Option ValueId) → List NameId → ℕ → ℕ → Type 0

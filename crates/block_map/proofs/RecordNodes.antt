@@ -5,7 +5,7 @@ use Rattle.svn_path.specs.Path.{same_name}
 use Rattle.svn_path.specs.declared.names.NameId.{NameId}
 use Rattle.svn_dump.specs.History.{Setting, delete, change, add, copy, keep, put}
 use Rattle.svn_dump.specs.Tree.{mergeinfo_after}
-use Rattle.svn_dump.specs.declared.kind.Kind.{Kind}
+use Rattle.svn_dump.specs.declared.record.Kind.{Kind}
 use Rattle.svn_dump.specs.declared.record.ValueId.{ValueId}
 use Rattle.block_map.specs.Trees.{ShowsAction, ShowsPath, ShowsTick, end_of_trees, look_in_trees}
 use Rattle.block_map.specs.Look as found

@@ -4,7 +4,7 @@ use Rattle.std.specs.Option.{option_and_then}
 use Rattle.std.specs.Prelude.{slice_get}
 use Rattle.svn_path.specs.Path.{same_name}
 use Rattle.svn_path.specs.declared.names.NameId.{NameId}
-use Rattle.svn_dump.specs.declared.kind.Kind.TheVariants.{Dir}
+use Rattle.svn_dump.specs.declared.record.Kind.TheVariants.{Dir}
 use Rattle.svn_dump.specs.declared.record.ValueId.{ValueId}
 use Rattle.block_map.specs.Trees.{ShowsPath, look_in_trees}
 use Rattle.block_map.specs.Look as found

@@ -4,7 +4,7 @@ use Rattle.std.specs.Option.{option_or}
 use Rattle.svn_path.specs.Below.{parent_of}
 use Rattle.svn_dump.specs.Fault.{Fault, missing, exists, no_parent, no_source}
 use Rattle.svn_dump.specs.History.{Action, delete, change, add, copy}
-use Rattle.svn_dump.specs.declared.kind.Kind.TheVariants.{File, Dir}
+use Rattle.svn_dump.specs.declared.record.Kind.TheVariants.{File, Dir}
 use Rattle.block_map.specs.Standing.{Standing}
 
 -- a number that no record has

@@ -3,7 +3,7 @@ use Rattle.std.specs.Prelude.{◌≡◌, ℕ, ◌<◌, List, [], ◌∷◌, ◌+
 use Rattle.svn_path.specs.declared.names.NameId.{NameId}
 use Rattle.block_map.specs.declared.trie.location.Location.{Location}
 use Rattle.block_map.specs.declared.trie.location.LocationId.{LocationId}
-use Rattle.block_map.specs.declared.trie.stored_location.StoredLocation.{StoredLocation}
+use Rattle.block_map.specs.declared.trie.location.StoredLocation.{StoredLocation}
 
 -- the path of a location, if there is one
 abbrev pub path_at : Option Location → List NameId

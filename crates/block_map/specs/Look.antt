@@ -5,8 +5,8 @@ use Rattle.std.specs.Prelude.{ℕ, zero, suc, ◌+◌, ◌-◌, ◌<◌, ◌≤�
 use Rattle.svn_path.specs.Below.{below}
 use Rattle.svn_dump.specs.History.{Setting, keep, put, Action, delete, change, add, copy, Record}
 use Rattle.svn_dump.specs.Tree.{mergeinfo_after}
-use Rattle.svn_dump.specs.declared.kind.Kind.{Kind}
-use Rattle.svn_dump.specs.declared.kind.Kind.TheVariants.{Dir}
+use Rattle.svn_dump.specs.declared.record.Kind.{Kind}
+use Rattle.svn_dump.specs.declared.record.Kind.TheVariants.{Dir}
 
 pub data Found (C M : Type 0) : Type 0 where
   -- what stood at the path at the tick, which is not after the block's first one

@@ -17,7 +17,7 @@ use Rattle.block_map.specs.Standing.{Standing, entry_view, standing_of}
 use Rattle.block_map.specs.declared.entry.Entry.{Entry}
 use Rattle.block_map.specs.declared.found.Found.{Found}
 use Rattle.block_map.specs.declared.found.Found.TheVariants as found
-use Rattle.block_map.specs.declared.nearest.Nearest.{Nearest}
+use Rattle.block_map.specs.declared.entry.Nearest.{Nearest}
 
 -- the tick before its first record, its records, with the sources of copies at ticks, and how many nodes it keeps
 pub record MapValue : Type 0 where

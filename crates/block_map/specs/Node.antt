@@ -1,7 +1,7 @@
 -- The nodes that records put.
 use Rattle.std.specs.Prelude.{Option}
 use Rattle.svn_dump.specs.History.{Setting, keep, put}
-use Rattle.svn_dump.specs.declared.kind.Kind.{Kind}
+use Rattle.svn_dump.specs.declared.record.Kind.{Kind}
 use Rattle.svn_dump.specs.declared.record.ValueId.{ValueId}
 use Rattle.block_map.specs.declared.trie.node.OwnEntry.{OwnEntry}
 use Rattle.block_map.specs.declared.trie.node.OwnEntry.TheVariants as own

@@ -1,7 +1,7 @@
 -- The kind and the mergeinfo of what stands at a path.
 use Rattle.std.specs.Prelude.{Bool, List, Option, Some, None, option_and_then, option_map}
 use Rattle.svn_dump.specs.Tree.{Tree, entry_at}
-use Rattle.svn_dump.specs.declared.kind.Kind.{Kind}
+use Rattle.svn_dump.specs.declared.record.Kind.{Kind}
 use Rattle.svn_dump.specs.declared.record.ValueId.{ValueId}
 use Rattle.block_map.specs.Look.{Found, at, at_with, is, absent}
 use Rattle.block_map.specs.declared.entry.Entry.{Entry}

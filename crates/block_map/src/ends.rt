@@ -1,3 +1,4 @@
+//! Where the revisions of a history end in its records.
 ghost use Rattle.std.specs.Prelude.{◌≡◌, ◌^◌, ◌<◌, All, length, slice_index_or};
 ghost use Rattle.block_map.specs.Ends.{ends_view};
 

@@ -1,3 +1,4 @@
+//! What a map says of a path.
 ghost use Rattle.std.specs.Prelude.{◌≡◌, option_map};
 ghost use Rattle.block_map.specs.Look.{at_with, from_beginning, with_mergeinfo as changed};
 ghost use Rattle.block_map.specs.Map.{found_view};

@@ -1,3 +1,4 @@
+//! Records for contracts alone.
 ghost use Rattle.std.specs.Prelude.{◌≡◌};
 ghost use Rattle.svn_dump.specs.Dump.{record_view};
 ghost use Rattle.block_map.specs.Ends.{record_at_tick};

@@ -17,14 +17,12 @@ mod ghost_record;
 mod joining;
 mod looked;
 mod map;
-mod nearest;
 mod trees;
 mod trie;
 
 pub use ends::Ends;
-pub use entry::Entry;
+pub use entry::{Entry, Nearest};
 pub use fault::{Fault, FaultKind};
 pub use faults::{check, check_from, fault_at};
 pub use found::Found;
 pub use map::Map;
-pub use nearest::Nearest;

@@ -1,3 +1,4 @@
+//! What a block says of a path.
 ghost use Rattle.std.specs.Prelude.{◌≡◌};
 ghost use Rattle.block_map.specs.Looked.{looked_view};
 ghost use Rattle.block_map.specs.Map.{found_view};

@@ -1,3 +1,4 @@
+//! What runs of records do to trees.
 ghost use Rattle.std.specs.Prelude.{◌≡◌, ℕ, ◌+◌, ◌^◌, ◌<◌, ◌≤◌, ◌++◌, ◌∷◌, [], All, List, length, option_and_then, option_map, IfOk, IfSome};
 ghost use Rattle.svn_dump.specs.Dump.{DumpValue, IsDump};
 ghost use Rattle.svn_dump.specs.Record.{most_components};
@@ -14,10 +15,9 @@ ghost use Rattle.block_map.specs.Trees.{AreMapTrees, AreTrees, end_of_trees, loo
 ghost use Rattle.svn_path.specs.declared.names.NameId.{NameId};
 
 use crate::ends::Ends;
-use crate::entry::Entry;
+use crate::entry::{Entry, Nearest};
 use crate::found::Found;
 use crate::looked::Looked;
-use crate::nearest::Nearest;
 use crate::trees::Trees;
 use std::alloc::{AllocError, Global};
 use std::marker::Model;

@@ -1,3 +1,4 @@
+//! The trees of a block, one after each of its records.
 ghost use Rattle.std.specs.Prelude.{◌≡◌, ◌+◌, ◌^◌, ◌<◌, ◌≤◌, ◌++◌, ◌∷◌, [], length, option_map, IfOk, OnOk};
 ghost use Rattle.std.specs.Prelude.{None};
 ghost use Rattle.svn_dump.specs.Dump.{record_view, setting_view};
@@ -12,11 +13,10 @@ ghost use Rattle.block_map.specs.Standing.{entry_view, standing_of};
 ghost use Rattle.block_map.specs.Trie.{IsNodeOf, IsSound};
 
 use crate::ends::Ends;
-use crate::entry::Entry;
+use crate::entry::{Entry, Nearest};
 use crate::found::Found;
 use crate::ghost_record::GhostRecord;
 use crate::looked::Looked;
-use crate::nearest::Nearest;
 use crate::trie::{Node, NodeId, Trie};
 use par_scan::GhostList;
 use std::alloc::{AllocError, Global};

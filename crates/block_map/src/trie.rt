@@ -1,3 +1,4 @@
+//! A persistent trie of paths.
 ghost use Rattle.std.specs.Prelude.{◌≡◌, ◌+◌, ◌<◌, ◌++◌, ◌∷◌, [], Some, IfOk, IfSome, OnOk, length, option_map, slice_get};
 ghost use Rattle.block_map.specs.Look.{with_mergeinfo as changed};
 ghost use Rattle.block_map.specs.Looked.{looked_view};
@@ -14,12 +15,10 @@ mod node;
 mod numbers;
 mod position;
 mod stored_child_map;
-mod stored_location;
 
-use crate::entry::Entry;
+use crate::entry::{Entry, Nearest};
 use crate::found::Found;
 use crate::looked::Looked;
-use crate::nearest::Nearest;
 use child_maps::ChildMaps;
 use location::{Location, LocationId};
 use locations::Locations;

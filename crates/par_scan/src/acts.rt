@@ -1,3 +1,4 @@
+//! What a scan joins.
 ghost use Rattle.std.specs.Prelude.{◌≡◌, ℕ, List, [], ◌∷◌, IfOk, IsTrue, ◌↔◌};
 ghost use Rattle.std.specs.List.{sum_by};
 ghost use Rattle.par_scan.specs.Chain.{ActsAsAll, ActsLike, IsChain, IsJoined, IsUnitOf};

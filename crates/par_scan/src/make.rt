@@ -1,3 +1,4 @@
+//! What makes the items of a scan.
 ghost use Rattle.std.specs.Prelude.{ℕ, IfOk};
 
 use crate::acts::Acts;

@@ -1,3 +1,4 @@
+//! Sums of numbers.
 ghost use Rattle.std.specs.Prelude.{ℕ};
 
 use crate::acts::Acts;

@@ -10,7 +10,7 @@ use Rattle.std.proofs.lemmas.List.{length_push, get_or_push, get_or_append_left,
 use Rattle.std.proofs.lemmas.Option.{get_or_from_slice_get, slice_get-get_or, slice_get_within}
 use Rattle.path_index.specs.Numbers.{has_number, newer_of, numbers_of, HasNumber, IsNewestBelow, IsRising, IsFrontUpTo}
 use Rattle.path_index.specs.Operative.{down_from, hit_at}
-use Rattle.path_index.specs.declared.hit.Hit.{Hit}
+use Rattle.path_index.specs.declared.segment.Hit.{Hit}
 use Rattle.path_index.proofs.DownFrom.{filter_down-none}
 use Rattle.path_index.proofs.Rising.{IsNonDecreasingBy-AllPairs}
 

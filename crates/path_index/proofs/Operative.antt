@@ -15,7 +15,7 @@ use Rattle.svn_dump.proofs.Locations.{location_is_there, location_through}
 use Rattle.svn_dump.proofs.Origins.{OriginsFall, OriginsAreThere, OriginsFall-trees_of, OriginsAreThere-trees_of}
 use Rattle.path_index.specs.History.{history_to, records_of, trees_to}
 use Rattle.path_index.specs.Operative.{names_below, came_from_itself, records_in, is_operative, down_from, operative_in, operative_from, operative_of, hit_at}
-use Rattle.path_index.specs.declared.hit.Hit.{Hit}
+use Rattle.path_index.specs.declared.segment.Hit.{Hit}
 use Rattle.path_index.specs.Segment.{AreSegments, IsSegment, Segment, segments_of}
 use Rattle.path_index.specs.Index.{IsThere}
 use Rattle.path_index.proofs.HistoryTo.{records_in-history_to}

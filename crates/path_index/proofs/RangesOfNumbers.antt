@@ -9,7 +9,7 @@ use Rattle.svn_dump.specs.declared.record.NodeRecord.{NodeRecord}
 use Rattle.path_index.specs.NamedRevisions.{first_revision, is_named_in, named_revisions}
 use Rattle.path_index.specs.Operative.{down_from, hit_at}
 use Rattle.path_index.specs.Range.{is_in_range}
-use Rattle.path_index.specs.declared.hit.Hit.{Hit}
+use Rattle.path_index.specs.declared.segment.Hit.{Hit}
 
 -- ---- filters
 

@@ -21,7 +21,7 @@ use Rattle.path_index.specs.History.{records_of, history_to, trees_to, AreRising
 use Rattle.path_index.specs.Index.{IsThere}
 use Rattle.path_index.specs.RecordEffect.{origin_of_entry, origin_view, SetsOrigin}
 use Rattle.path_index.specs.Span.{IsSpan, location_before}
-use Rattle.svn_dump.specs.declared.origin.Origin.{Origin}
+use Rattle.svn_dump.specs.declared.record.Origin.{Origin}
 use Rattle.path_index.proofs.EntriesOfPaths.{SetsAt-SetsPath}
 use Rattle.path_index.proofs.RecordEffects.{KeepsOrigin-unset}
 use Rattle.path_index.proofs.Rising.{AreUpTo-before}

@@ -5,7 +5,7 @@ use Rattle.std.proofs.lemmas.List.Sums.{fold-append}
 use Rattle.svn_path.specs.Below.{below, is_below}
 use Rattle.svn_dump.specs.History.{Setting, delete, change, add, copy, Record}
 use Rattle.svn_dump.specs.Tree.{Tree, Entry, entry_at, is_there, tree_of, tree_after_record}
-use Rattle.svn_dump.specs.declared.kind.Kind.{Kind}
+use Rattle.svn_dump.specs.declared.record.Kind.{Kind}
 use Rattle.svn_path.proofs.Belows.{IsSame, below-itself}
 use Rattle.svn_dump.proofs.Belows.{path_from_below}
 use Rattle.svn_dump.proofs.Trees.{entry_at-elsewhere, entry_at-under, entry_left, settled_entry_at, entry_from}

@@ -13,7 +13,7 @@ use Rattle.path_index.specs.History.{history_to, trees_to}
 use Rattle.path_index.specs.Segment.{Segment, segments_up_to}
 use Rattle.path_index.specs.Index.{IsThere, gap_between, segment_view}
 use Rattle.path_index.specs.Span.{location_before}
-use Rattle.svn_dump.specs.declared.origin.Origin.{Origin}
+use Rattle.svn_dump.specs.declared.record.Origin.{Origin}
 use Rattle.path_index.specs.declared.segment.Segment.{Segment as KeptSegment}
 use Rattle.path_index.proofs.SegmentsUpTo.{segments_up_to-next, segments_up_to-first}
 

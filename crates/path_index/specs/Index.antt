@@ -9,7 +9,7 @@ use Rattle.path_index.specs.History.{AreRising, history_to, trees_to}
 use Rattle.path_index.specs.Operative.{operative_of}
 use Rattle.path_index.specs.Range.{is_in_range}
 use Rattle.path_index.specs.Segment.{AreSegments, Segment, segments_of}
-use Rattle.path_index.specs.declared.hit.Hit.{Hit}
+use Rattle.path_index.specs.declared.segment.Hit.{Hit}
 use Rattle.path_index.specs.declared.segment.Segment.{Segment as KeptSegment}
 
 -- the records of an index, and how many others precede them

@@ -6,7 +6,7 @@ use Rattle.svn_dump.specs.declared.record.NodeRecord.{NodeRecord}
 use Rattle.path_index.specs.History.{records_of}
 use Rattle.path_index.specs.Operative.{down_from, hit_at, names_below}
 use Rattle.path_index.specs.Range.{is_in_range}
-use Rattle.path_index.specs.declared.hit.Hit.{Hit}
+use Rattle.path_index.specs.declared.segment.Hit.{Hit}
 use Rattle.path_index.specs.declared.segment.Segment.{Segment}
 
 -- a record of the revision names the path or a path below it

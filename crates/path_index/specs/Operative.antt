@@ -7,7 +7,7 @@ use Rattle.svn_dump.specs.History.{History, Record}
 use Rattle.svn_dump.specs.Location.{origin_of}
 use Rattle.svn_dump.specs.Tree.{Tree, is_there, tree_of}
 use Rattle.path_index.specs.Segment.{Segment}
-use Rattle.path_index.specs.declared.hit.Hit.{Hit}
+use Rattle.path_index.specs.declared.segment.Hit.{Hit}
 
 -- a record names the path, or a path below it; a copy doesn't name its source
 abbrev pub names_below : {C M : Type 0} → (C → C → Bool) → List C → List (Record C M) → Bool

@@ -7,7 +7,7 @@ use Rattle.svn_path.specs.declared.names.NameId.{NameId}
 use Rattle.svn_dump.specs.Dump.{record_view}
 use Rattle.svn_dump.specs.History.{Record}
 use Rattle.svn_dump.specs.Tree.{Entry, Tree, entry_at, is_there, tree_after_record}
-use Rattle.svn_dump.specs.declared.origin.Origin.{Origin}
+use Rattle.svn_dump.specs.declared.record.Origin.{Origin}
 use Rattle.svn_dump.specs.declared.record.Act.{Act}
 use Rattle.svn_dump.specs.declared.record.Act.TheVariants as act
 use Rattle.svn_dump.specs.declared.record.NodeRecord.{NodeRecord}

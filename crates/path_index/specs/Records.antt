@@ -2,7 +2,7 @@
 use Rattle.std.specs.Prelude.{◌≡◌, ℕ, ◌+◌, ◌<◌, true, false, leb, ◌≤◌, List, [], ◌∷◌, ◌++◌, All, AllPairs, Option, None, Some, slice_get, slice_index_or, length, map}
 use Rattle.std.specs.List.Sorted.{IsPartitionPoint}
 use Rattle.svn_path.specs.declared.names.NameId.{NameId}
-use Rattle.svn_dump.specs.declared.origin.Origin.{Origin}
+use Rattle.svn_dump.specs.declared.record.Origin.{Origin}
 use Rattle.svn_dump.specs.declared.record.Act.{Act}
 use Rattle.svn_dump.specs.declared.record.Act.TheVariants as act
 use Rattle.svn_dump.specs.declared.record.NodeRecord.{NodeRecord}

@@ -1,3 +1,4 @@
+//! The index of a history.
 ghost use Rattle.std.specs.Prelude.{◌≡◌, ◌+◌, ◌^◌, ◌<◌, ◌++◌, None, IfOk, OnOk, length};
 ghost use Rattle.path_index.specs.History.{AreRising};
 ghost use Rattle.path_index.specs.Index.{AreHitsInRange, AreHitsOf, AreMaximal, AreSegmentsOf, IsThere, IsWhole, gap_between, location_in};
@@ -6,11 +7,9 @@ ghost use Rattle.path_index.specs.NamedRevisions.{AddsOperative};
 ghost use Rattle.path_index.specs.Range.{is_in_range};
 ghost use Rattle.path_index.specs.Span.{IsSpan};
 
-use crate::hit::Hit;
 use crate::records::Records;
 use crate::records_by_path::RecordsByPath;
-use crate::revision_range::RevisionRange;
-use crate::segment::Segment;
+use crate::segment::{Hit, RevisionRange, Segment};
 use crate::span::Span;
 use std::alloc::{AllocError, Global};
 use std::marker::Model;

@@ -9,19 +9,15 @@
 #![tactic(auto)]
 
 mod copied;
-mod hit;
 mod index;
 mod joining;
 mod nodes;
 mod numbers;
 mod records;
 mod records_by_path;
-mod revision_range;
 mod segment;
 mod span;
 mod sparse_numbers;
 
-pub use hit::Hit;
 pub use index::Index;
-pub use revision_range::RevisionRange;
-pub use segment::Segment;
+pub use segment::{Hit, RevisionRange, Segment};

@@ -1,10 +1,11 @@
+//! Numbers by nodes, of which most have some.
 ghost use Rattle.std.specs.Prelude.{◌≡◌, ◌+◌, ◌-◌, ◌^◌, ◌<◌, ◌++◌, [], All, filter, length, map, IfOk, OnOk};
 ghost use Rattle.path_index.specs.Numbers.{has_number, newer_of, numbers_of, AddsNumbers, ArePair, FitShifted};
 ghost use Rattle.path_index.specs.Numbers.{HasNumber, HaveSameNumbers, IsMoved, IsNewestBelow, IsFirstNotBelow, IsRising};
 ghost use Rattle.path_index.specs.Numbers.{IsShifted, IsFrontUpTo, IsWith, KeepOthers};
 ghost use Rattle.path_index.specs.Operative.{down_from, hit_at};
 
-use crate::hit::Hit;
+use crate::segment::Hit;
 use smallvec::SmallVec;
 use std::alloc::{AllocError, Global};
 use std::marker::Model;

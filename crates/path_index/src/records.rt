@@ -1,3 +1,4 @@
+//! The records of an index by their numbers.
 ghost use Rattle.std.specs.Prelude.{◌≡◌, ◌+◌, ◌^◌, ◌<◌, ◌++◌, [], All, Some, length, map, option_copied, slice_get};
 ghost use Rattle.std.specs.Prelude.{IfOk, OnOk};
 ghost use Rattle.svn_dump.specs.declared.record.NodeRecord.{NodeRecord as Record};

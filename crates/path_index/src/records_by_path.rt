@@ -1,3 +1,4 @@
+//! The records of an index by their paths.
 ghost use Rattle.std.specs.Prelude.{◌≡◌, ◌+◌, ◌^◌, ◌<◌, ◌++◌, [], List, Some, length, slice_get, IfOk, OnOk};
 ghost use Rattle.svn_dump.specs.declared.record.NodeRecord.{NodeRecord as Record};
 ghost use Rattle.path_index.specs.NamedRevisions.{AddsNamed};
@@ -6,9 +7,9 @@ ghost use Rattle.path_index.specs.Numbers.{IsNewestBelow};
 ghost use Rattle.path_index.specs.RecordsByPath.{AddsEntries, AreByPath, AreListed, AreNeighbours, IsFrontAt};
 ghost use Rattle.path_index.specs.RecordsByPath.{IsOfBoth, IsOfSameRecords, SetsAt};
 
-use crate::hit::Hit;
 use crate::nodes::Nodes;
 use crate::numbers::{Numbers, newer};
+use crate::segment::Hit;
 use crate::sparse_numbers::SparseNumbers;
 use std::alloc::{AllocError, Global};
 use svn_dump::{Act, NodeRecord};

@@ -1,3 +1,5 @@
+//! Where a path stood, and the operative revisions there.
+
 use svn_path::Path;
 
 /// A location segment of a path: the neighbouring revisions from `lo` to `hi`, in which it stood at one location, or
@@ -8,3 +10,13 @@ pub struct Segment {
     pub hi: u32,
     pub path: Option<Path>,
 }
+
+/// An operative revision of the path of a segment, and the index of the segment.
+#[derive(Clone, Copy, Debug, PartialEq, Eq)]
+pub struct Hit {
+    pub rev: u32,
+    pub segment: usize,
+}
+
+/// The first and the last revision of a range.
+pub type RevisionRange = (u32, u32);

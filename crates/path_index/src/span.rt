@@ -1,3 +1,4 @@
+//! How far back a path stood at one location.
 ghost use Rattle.std.specs.Prelude.{IfOk};
 ghost use Rattle.path_index.specs.History.{AreRising};
 ghost use Rattle.path_index.specs.Index.{IsThere};

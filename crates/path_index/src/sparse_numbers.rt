@@ -1,3 +1,4 @@
+//! Numbers by nodes, of which most have none.
 ghost use Rattle.std.specs.Prelude.{◌≡◌, ℕ, ◌+◌, ◌^◌, ◌<◌, ◌≤◌, ◌++◌, ◌∷◌, [], All, length, IfOk, OnErr, OnOk};
 ghost use Rattle.path_index.specs.Numbers.{numbers_of, AddsNumbers, ArePair, FitShifted, HasNumber, HaveSameNumbers};
 ghost use Rattle.path_index.specs.Numbers.{IsMoved, IsNewestBelow, IsShifted};

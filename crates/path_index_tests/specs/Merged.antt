@@ -1,7 +1,7 @@
 -- The records of the history `MERGED` of the tests, and indexes of them.
 use Rattle.std.specs.Prelude.{◌≡◌, ℕ, false, List, [], ◌∷◌, ◌++◌, Some}
 use Rattle.svn_path.specs.declared.names.NameId.{NameId}
-use Rattle.svn_dump.specs.declared.kind.Kind.{Kind}
+use Rattle.svn_dump.specs.declared.record.Kind.{Kind}
 use Rattle.svn_dump.specs.declared.record.Act.{Act}
 use Rattle.svn_dump.specs.declared.record.Mi.{Mi}
 use Rattle.svn_dump.specs.declared.record.NodeRecord.{NodeRecord}

@@ -1,6 +1,6 @@
 //! What the history `MERGED` is, record by record, and what an index of it says of `branches/b`.
 ghost use Rattle.std.specs.Prelude.{◌≡◌, IfOk, IsTrue};
-ghost use Rattle.svn_dump.specs.declared.kind.Kind.{Kind};
+ghost use Rattle.svn_dump.specs.declared.record.Kind.{Kind};
 ghost use Rattle.path_index.specs.Index.{IsThere, IsWhole};
 ghost use Rattle.path_index_tests.specs.Merged.{added, changed, copied, deleted, text_put};
 ghost use Rattle.path_index_tests.specs.Merged.{all_records, first_records, last_records, the_branch, IsIndexOf};

@@ -11,7 +11,7 @@ use Rattle.path_index.specs.Index.{AreMaximal, IndexValue, IsThere, IsWhole, seg
 use Rattle.path_index.specs.Operative.{operative_of}
 use Rattle.path_index.specs.Range.{is_in_range}
 use Rattle.path_index.specs.Segment.{rename_segment, segments_of}
-use Rattle.path_index.specs.declared.hit.Hit.{Hit}
+use Rattle.path_index.specs.declared.segment.Hit.{Hit}
 use Rattle.path_index.specs.declared.segment.Segment.{Segment as KeptSegment}
 use Rattle.svn_path.specs.Names.{name_of}
 use Rattle.svn_path.specs.Path.{same_name, components_of}
@@ -33,7 +33,7 @@ use Rattle.query_answer.specs.Repo.{IsMergeinfoRefused, IsPair, IsPairRefused, I
 use Rattle.query_answer.specs.declared.answers.Answer.{Answer as KeptAnswer}
 use Rattle.query_answer.specs.declared.answers.Answer.TheVariants as kept
 use Rattle.query_answer.specs.declared.held_mergeinfo.HeldMergeinfo.{HeldMergeinfo}
-use Rattle.query_answer.specs.declared.path_rev.PathRev.{PathRev}
+use Rattle.query_answer.specs.declared.target.PathRev.{PathRev}
 use Rattle.query_answer.specs.declared.unanswered.Unanswered.{Unanswered}
 use Rattle.query_answer.specs.declared.unanswered.Unanswered.TheVariants.{Memory, Refused}
 use Rattle.query_answer.specs.Unanswered.{HasAnswer}

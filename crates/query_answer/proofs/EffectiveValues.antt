@@ -19,7 +19,7 @@ use Rattle.query_answer.specs.Peg.{PegValue, peg_view}
 use Rattle.query_answer.specs.Repo.{IsNearestIn, IsTargetFound, effective_in, nearest_text_at, nearest_text_in, nearest_by_number, trees_in_bytes}
 use Rattle.query_answer.specs.declared.target.Target.{Target}
 use Rattle.block_map.specs.Map.{revision_in}
-use Rattle.block_map.specs.declared.nearest.Nearest.{Nearest}
+use Rattle.block_map.specs.declared.entry.Nearest.{Nearest}
 use Rattle.query_answer.proofs.InBytes.{nearest-in_bytes}
 use Rattle.query_answer.proofs.NearestMergeinfo.{own-nearest_from, with_mergeinfo_by}
 use Rattle.query_answer.proofs.TreeValues.{mergeinfo-within}

@@ -16,7 +16,7 @@ use Rattle.query_answer.specs.Repo.{IsNearestIn, nearest_by_number}
 use Rattle.svn_dump.specs.declared.record.ValueId.{ValueId}
 use Rattle.block_map.specs.Map.{HasNoneFrom, IsNearest, IsNearestOrNone, revision_in}
 use Rattle.block_map.specs.Standing.{Standing, own_mergeinfo_at}
-use Rattle.block_map.specs.declared.nearest.Nearest.{Nearest}
+use Rattle.block_map.specs.declared.entry.Nearest.{Nearest}
 
 -- ---- in a renamed tree
 

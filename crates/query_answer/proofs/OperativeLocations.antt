@@ -13,7 +13,7 @@ use Rattle.svn_dump.proofs.Renaming.Paths.{KeepsSame}
 use Rattle.svn_dump.proofs.Renaming.Trees.{rename_tree}
 use Rattle.path_index.specs.Operative.{down_from, hit_at, is_operative, operative_from, operative_in, operative_of}
 use Rattle.path_index.specs.Segment.{AreSegments, IsSegment, Segment}
-use Rattle.path_index.specs.declared.hit.Hit.{Hit}
+use Rattle.path_index.specs.declared.segment.Hit.{Hit}
 use Rattle.path_index.proofs.Renaming.{is_operative-rename}
 use Rattle.query_answer.specs.Merged.{found_in, operative_location}
 

@@ -10,7 +10,7 @@ use Rattle.path_index.specs.Index.{AreHitsInRange, AreMaximal, AreSegmentsOf, In
 use Rattle.path_index.specs.Operative.{operative_of}
 use Rattle.path_index.specs.Range.{is_in_range}
 use Rattle.path_index.specs.Segment.{AreSegments}
-use Rattle.path_index.specs.declared.hit.Hit.{Hit}
+use Rattle.path_index.specs.declared.segment.Hit.{Hit}
 use Rattle.path_index.specs.declared.segment.Segment.{Segment}
 use Rattle.svn_path.specs.Path.{IsPathOf, same_name}
 use Rattle.svn_path.specs.declared.names.NameId.{NameId}

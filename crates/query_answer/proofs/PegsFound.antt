@@ -11,7 +11,7 @@ use Rattle.block_map.specs.Map.{MapValue, revision_in}
 use Rattle.block_map.specs.Standing.{entry_view, standing_at}
 use Rattle.block_map.specs.declared.entry.Entry as kept
 use Rattle.query_answer.specs.Held.{depth_in, rest_of}
-use Rattle.query_answer.specs.declared.path_rev.PathRev.{PathRev}
+use Rattle.query_answer.specs.declared.target.PathRev.{PathRev}
 use Rattle.query_answer.specs.declared.target.Target.{Target}
 use Rattle.query_answer.specs.Answer.{if_peg_exists, refused_answer}
 use Rattle.query_answer.specs.Peg.{PegValue}

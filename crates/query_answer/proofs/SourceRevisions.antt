@@ -8,7 +8,7 @@ use Rattle.path_index.specs.Index.{location_in, segment_view}
 use Rattle.path_index.specs.Operative.{operative_of}
 use Rattle.path_index.specs.Range.{is_in_range}
 use Rattle.path_index.specs.Segment.{AreSegments, same_location, segments_of}
-use Rattle.path_index.specs.declared.hit.Hit.{Hit}
+use Rattle.path_index.specs.declared.segment.Hit.{Hit}
 use Rattle.path_index.specs.declared.segment.Segment.{Segment as KeptSegment}
 use Rattle.path_index.proofs.Renaming.{same_location-rename}
 use Rattle.svn_path.specs.Names.{IsTable}
@@ -24,7 +24,7 @@ use Rattle.query_answer.specs.Merged.{RevisionsByPath, eligible_at, found_in, is
 use Rattle.query_answer.specs.Merged.{operative_location, value_has}
 use Rattle.query_answer.specs.SourceHits.{eligible_by_hit, eligible_by_hits, has_in, has_revision, is_eligible_at, lent_ranges, merged_by_hit, merged_by_hits, segment_path}
 use Rattle.query_answer.specs.declared.held_mergeinfo.HeldMergeinfo.{HeldMergeinfo}
-use Rattle.query_answer.specs.declared.path_rev.PathRev.{PathRev}
+use Rattle.query_answer.specs.declared.target.PathRev.{PathRev}
 use Rattle.query_answer.specs.declared.verbs.source.SourceRanges.{SourceRanges}
 use Rattle.query_answer.specs.Repo.{IsPathIn, peg_in_bytes, trees_in_bytes}
 use Rattle.query_answer.proofs.HeldRevisions.{held-has, some_have}

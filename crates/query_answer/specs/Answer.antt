@@ -4,7 +4,7 @@ use Rattle.std.specs.Borrow.{Bor}
 use Rattle.path_index.specs.Index.{segment_view}
 use Rattle.path_index.specs.Range.{is_in_range}
 use Rattle.path_index.specs.Segment.{Segment, rename_segment, segments_of}
-use Rattle.path_index.specs.declared.hit.Hit.{Hit}
+use Rattle.path_index.specs.declared.segment.Hit.{Hit}
 use Rattle.path_index.specs.declared.segment.Segment.{Segment as KeptSegment}
 use Rattle.svn_path.specs.Components.{path_text}
 use Rattle.svn_path.specs.Names.{name_of}
@@ -23,7 +23,7 @@ use Rattle.query_answer.specs.Peg.{Peg}
 use Rattle.query_answer.specs.Query.{Query}
 use Rattle.query_answer.specs.declared.answers.Answer.{Answer as KeptAnswer}
 use Rattle.query_answer.specs.declared.answers.Answer.TheVariants as kept
-use Rattle.query_answer.specs.declared.merged_revision.MergedRevision.{MergedRevision}
+use Rattle.query_answer.specs.declared.answers.MergedRevision.{MergedRevision}
 use Rattle.query_answer.specs.declared.status.Status.{Status}
 use Rattle.query_answer.specs.declared.status.Status.TheVariants as status
 

@@ -5,7 +5,7 @@ use Rattle.svn_path.specs.Path.{IsPathOf, components_of}
 use Rattle.svn_path.specs.declared.names.NameId.{NameId}
 use Rattle.range_list.specs.declared.run.Run.{Run}
 use Rattle.merge_info.specs.Value.{IsMergeInfo, MergeInfoValue}
-use Rattle.block_map.specs.declared.nearest.Nearest.{Nearest}
+use Rattle.block_map.specs.declared.entry.Nearest.{Nearest}
 use Rattle.path_index.specs.declared.segment.Segment.{Segment}
 use Rattle.query_answer.specs.HeldValue.{own_or_below, path_above, ranges_at}
 use Rattle.query_answer.specs.declared.held_mergeinfo.HeldMergeinfo.{HeldMergeinfo}

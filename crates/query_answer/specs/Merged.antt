@@ -12,7 +12,7 @@ use Rattle.svn_dump.specs.Location.{location}
 use Rattle.svn_dump.specs.Tree.{Tree}
 use Rattle.path_index.specs.Operative.{is_operative}
 use Rattle.path_index.specs.Segment.{same_location}
-use Rattle.query_answer.specs.declared.merged_revision.MergedRevision.{MergedRevision}
+use Rattle.query_answer.specs.declared.answers.MergedRevision.{MergedRevision}
 
 -- the location of a path in a revision that is operative there
 abbrev pub operative_location : {C M : Type 0} → (C → C → Bool) → History C M → List (Tree C M) → List C → ℕ → ℕ → Option (List C)

@@ -4,7 +4,7 @@ use Rattle.std.specs.Borrow.{Fml, MutBor}
 use Rattle.std.specs.Io.BufRead.{Rests}
 use mir.Syntax.{named}
 use Rattle.svn_dump.specs.Dump.{DumpValue, text_of}
-use Rattle.block_map.specs.declared.nearest.Nearest.{Nearest}
+use Rattle.block_map.specs.declared.entry.Nearest.{Nearest}
 use Rattle.merge_info.specs.CanonicalValue.{value_of}
 use Rattle.merge_info.specs.Value.{MergeInfoValue}
 use Rattle.value_memo.specs.SeenValue.{SeenValue}

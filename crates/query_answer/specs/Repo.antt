@@ -4,7 +4,7 @@ use Rattle.path_index.specs.History.{history_to, trees_to}
 use Rattle.path_index.specs.Index.{AreMaximal, AreSegmentsOf, IndexValue, IsThere, segment_view}
 use Rattle.path_index.specs.Operative.{operative_of}
 use Rattle.path_index.specs.Range.{is_in_range}
-use Rattle.path_index.specs.declared.hit.Hit.{Hit}
+use Rattle.path_index.specs.declared.segment.Hit.{Hit}
 use Rattle.path_index.specs.declared.segment.Segment.{Segment as KeptSegment}
 use Rattle.svn_path.specs.Path.{same_name, components_of, IsPathOf}
 use Rattle.svn_path.specs.declared.names.NameId.{NameId}
@@ -14,7 +14,7 @@ use Rattle.svn_dump.specs.Tree.{tree_of, trees_of}
 use Rattle.svn_dump.specs.declared.record.ValueId.{ValueId}
 use Rattle.block_map.specs.Ends.{ends_of}
 use Rattle.block_map.specs.Map.{IsEndIn, IsMapOf, MapValue, revision_in}
-use Rattle.block_map.specs.declared.nearest.Nearest.{Nearest}
+use Rattle.block_map.specs.declared.entry.Nearest.{Nearest}
 use Rattle.query_answer.specs.Answer.{Answer, HasPathOf, TreesOfBytes, if_both_exist, if_peg_exists, with_value, answer_of, eligible_lines, locate_lines, log_lines, merged_lines, value_answer, needs_mergeinfo, ok_answer, refused_answer, segments_lines}
 use Rattle.query_answer.specs.Effective.{NearestMergeinfo, effective_value, nearest, nearest_text, own_or_inherited}
 use Rattle.query_answer.specs.Peg.{Peg, PegValue, peg_view}
@@ -22,16 +22,18 @@ use Rattle.query_answer.specs.Query as query
 use Rattle.query_answer.specs.Query.{Query}
 use Rattle.merge_info.specs.Value.{MergeInfoValue}
 use Rattle.value_memo.specs.Parsed.{parsed_view}
-use Rattle.value_memo.specs.declared.parsed.Parsed.{Parsed}
-use Rattle.query_answer.specs.declared.effective_mergeinfo.Effective.{Effective}
-use Rattle.query_answer.specs.declared.effective_mergeinfo.Effective.TheVariants.{Malformed, Value}
+use Rattle.value_memo.specs.declared.reading.Parsed.{Parsed}
+use Rattle.query_answer.specs.declared.answers.Effective.{Effective}
+use Rattle.query_answer.specs.declared.answers.Effective.TheVariants.{Malformed, Value}
 use Rattle.query_answer.specs.Held.{depth_in, held_value}
 use Rattle.query_answer.specs.declared.held_mergeinfo.HeldMergeinfo.{HeldMergeinfo}
-use Rattle.query_answer.specs.declared.path_rev.PathRev.{PathRev}
+use Rattle.query_answer.specs.declared.target.PathRev.{PathRev}
 use Rattle.query_answer.specs.declared.target.Target.{Target}
 use Rattle.query_answer.specs.Unanswered.{HasAnswer}
 use Rattle.query_answer.specs.declared.unanswered.Unanswered.{Unanswered}
 use Rattle.query_answer.specs.declared.unanswered.Unanswered.TheVariants.{Memory, Refused}
+use Rattle.query_answer.specs.declared.verbs.pair.Choice.{Choice}
+use Rattle.query_answer.specs.declared.verbs.pair.Choice.TheVariants as choice
 use Rattle.query_answer.specs.declared.verbs.pair.Pair.{Pair}
 
 -- the index of a dump's records
@@ -201,11 +203,12 @@ merged_by dump range source target value = ok_answer (merged_lines (history_in_b
 abbrev pub eligible_by : DumpValue → Option (ℕ × ℕ) → Peg → Peg → MergeInfoValue → Answer
 eligible_by dump range source target value = ok_answer (eligible_lines (history_in_bytes dump) (trees_in_bytes dump) source target range value)
 
-abbrev pub merged_answer : DumpValue → PegValue → PegValue → Option (ℕ × ℕ) → Answer
-merged_answer dump source target range = with_pair_in dump source target (merged_by dump range)
+abbrev pub chosen_by : DumpValue → Choice → Option (ℕ × ℕ) → Peg → Peg → MergeInfoValue → Answer
+chosen_by dump choice.Merged range = merged_by dump range
+chosen_by dump choice.Eligible range = eligible_by dump range
 
-abbrev pub eligible_answer : DumpValue → PegValue → PegValue → Option (ℕ × ℕ) → Answer
-eligible_answer dump source target range = with_pair_in dump source target (eligible_by dump range)
+abbrev pub pair_answer : DumpValue → PegValue → PegValue → Choice → Option (ℕ × ℕ) → Answer
+pair_answer dump source target choice range = with_pair_in dump source target (chosen_by dump choice range)
 
 -- such an answer about a pair, by what the target holds
 abbrev pub held_answer : DumpValue → Pair → HeldMergeinfo → (Peg → Peg → MergeInfoValue → Answer) → Answer

@@ -8,10 +8,10 @@ use Rattle.range_list.specs.declared.run.Run.{Run}
 use Rattle.merge_info.specs.Inherited.{inherited_revision}
 use Rattle.path_index.specs.Index.{segment_view}
 use Rattle.path_index.specs.Segment.{AreSegments}
-use Rattle.path_index.specs.declared.hit.Hit.{Hit}
+use Rattle.path_index.specs.declared.segment.Hit.{Hit}
 use Rattle.path_index.specs.declared.segment.Segment.{Segment as KeptSegment}
 use Rattle.query_answer.specs.Merged.{is_eligible, merged_revision}
-use Rattle.query_answer.specs.declared.merged_revision.MergedRevision.{MergedRevision}
+use Rattle.query_answer.specs.declared.answers.MergedRevision.{MergedRevision}
 use Rattle.query_answer.specs.declared.verbs.source.SourceRanges.{SourceRanges}
 
 -- the path of a segment of the list, if there is this segment and it is no gap

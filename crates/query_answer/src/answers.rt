@@ -1,12 +1,13 @@
+//! What is answered to queries.
 ghost use Rattle.std.specs.Prelude.{◌≡◌, ◌+◌, ◌++◌, OnErr, OnOk};
 ghost use Rattle.svn_text.specs.Appended.{BeginsWith};
 ghost use Rattle.query_answer.specs.Answer.{HasPathsOf, answer_head, answer_in_bytes, answer_text_at};
 
-use crate::merged_revision::MergedRevision;
 use crate::printed_mergeinfo::PrintedMergeinfo;
 use crate::repo::Repo;
 use crate::status::Status;
 use crate::verbs::{eligible, locate, log, merged, segments};
+use merge_info::MergeInfo;
 use path_index::{Hit, Segment};
 use std::alloc::AllocError;
 use svn_path::{Names, Path};
@@ -33,6 +34,21 @@ pub enum Answer {
     Merged(Vec<MergedRevision>),
     /// The revisions that are still to be merged into a target, in rising order.
     Eligible(Vec<u32>),
+}
+
+/// The mergeinfo that holds for a path: its own, or what it inherits.
+#[derive(Drop)]
+pub enum Effective {
+    Value(MergeInfo),
+    /// The text of the nearest mergeinfo is malformed.
+    Malformed,
+}
+
+/// A revision of a source that the mergeinfo of a target has, and whether it is inheritable there.
+#[derive(Clone, Copy, Debug, PartialEq, Eq)]
+pub struct MergedRevision {
+    pub rev: u32,
+    pub inheritable: bool,
 }
 
 impl Answer {

@@ -1,3 +1,4 @@
+//! The mergeinfo that a path holds: its own, or what it inherits.
 ghost use Rattle.std.specs.Prelude.{◌≡◌, IfOk};
 ghost use Rattle.svn_path.specs.Path.{IsPathOf, components_of};
 ghost use Rattle.query_answer.specs.Held.{IsHeldIn, held_ranges_at, held_value};

@@ -6,7 +6,7 @@ ghost use Rattle.svn_path.specs.Path.{IsPathOf, components_of};
 ghost use Rattle.query_answer.specs.Repo.{effective_in, effective_said, effective_view, nearest_text_in};
 ghost use Rattle.query_answer.specs.Worker.{IsSeenOf, Knows, Learns};
 
-use crate::effective_mergeinfo::Effective;
+use crate::answers::Effective;
 use crate::nearest_value::nearest_value;
 use crate::repo::Repo;
 use crate::target::depth_in;

@@ -12,13 +12,10 @@
 #![tactic(auto)]
 
 mod answers;
-mod effective_mergeinfo;
 mod held_mergeinfo;
 pub mod inheritance;
 mod locations;
-mod merged_revision;
 mod nearest_value;
-mod path_rev;
 mod peg;
 mod printed_mergeinfo;
 mod query;
@@ -29,9 +26,7 @@ mod target;
 mod unanswered;
 mod verbs;
 
-pub use answers::Answer;
-pub use effective_mergeinfo::Effective;
-pub use merged_revision::MergedRevision;
+pub use answers::{Answer, Effective, MergedRevision};
 pub use peg::Peg;
 pub use printed_mergeinfo::PrintedMergeinfo;
 pub use query::Query;

@@ -1,3 +1,4 @@
+//! Pegs in queries.
 ghost use Rattle.std.specs.Prelude.{◌≡◌};
 ghost use Rattle.svn_path.specs.Components.{HasDot};
 ghost use Rattle.query_answer.specs.Peg.{peg_value_of};

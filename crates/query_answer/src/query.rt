@@ -1,3 +1,4 @@
+//! How queries are read.
 ghost use Rattle.std.specs.Prelude.{◌≡◌};
 ghost use Rattle.query_answer.specs.Query.{HasPegOf, HasTargetOf, locate_of, log_of, peg_field, query_in_range};
 ghost use Rattle.query_answer.specs.Query.{query_of, query_of_field, query_of_pair, query_of_peg, query_or_bad};

@@ -1,3 +1,4 @@
+//! A history that is ready to be asked.
 ghost use Rattle.std.specs.Prelude.{◌≡◌, ◌+◌, ◌<◌, length, slice_get, None, Some, IfErr, IfOk};
 ghost use Rattle.svn_path.specs.Path.{same_name};
 ghost use Rattle.svn_dump.specs.Dump.{IsDump, history_in_bytes, history_view};
@@ -7,10 +8,9 @@ ghost use Rattle.block_map.specs.Map.{IsMapOf};
 ghost use Rattle.path_index.specs.Index.{location_in};
 ghost use Rattle.query_answer.specs.Repo.{index_of_dump};
 
-use crate::path_rev::PathRev;
 use crate::peg::Peg;
 use crate::status::Status;
-use crate::target::Target;
+use crate::target::{PathRev, Target};
 use crate::unanswered::Unanswered;
 use block_map::{Ends, Map, Nearest};
 use path_index::{Hit, Index, RevisionRange, Segment};

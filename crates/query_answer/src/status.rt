@@ -1,3 +1,4 @@
+//! The first word of an answer.
 ghost use Rattle.std.specs.Prelude.{◌≡◌};
 ghost use Rattle.query_answer.specs.Answer.{status_text};
 

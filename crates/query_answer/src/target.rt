@@ -1,9 +1,16 @@
+//! What a peg names.
 ghost use Rattle.std.specs.Prelude.{◌≡◌, ◌≤◌, length};
 ghost use Rattle.query_answer.specs.Held.{depth_in, rest_of};
 
-use crate::path_rev::PathRev;
 use block_map::Nearest;
 use svn_path::{NameId, Path};
+
+/// A path in a revision, by the names of a repository.
+#[derive(Drop)]
+pub(crate) struct PathRev {
+    pub(crate) path: Path,
+    pub(crate) rev: u32,
+}
 
 /// A path in a revision whose mergeinfo is asked for, and the nearest mergeinfo of it, if there is any.
 #[derive(Drop)]

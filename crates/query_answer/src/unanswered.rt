@@ -1,3 +1,5 @@
+//! Why a query has no result lines.
+
 use crate::status::Status;
 use std::alloc::AllocError;
 

@@ -1,3 +1,4 @@
+//! Sets of revision numbers.
 ghost use Rattle.std.specs.Bool.{OnTrue};
 ghost use Rattle.std.specs.List.{list_any};
 ghost use Rattle.std.specs.Prelude.{◌≡◌, ◌≤◌, ◌<◌, ◌↔◌, List, [], ◌++◌, All, IfOk, OnOk, OnErr, IsTrue};

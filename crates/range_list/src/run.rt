@@ -1,3 +1,4 @@
+//! Runs of neighbouring revision numbers.
 ghost use Rattle.std.specs.Prelude.{◌≡◌, ◌+◌, ◌<◌, ◌↔◌, IsTrue};
 ghost use Rattle.range_list.specs.Rangelist.{is_apart};
 

@@ -6,8 +6,8 @@ use Rattle.std.specs.List.{cons_option}
 use Rattle.svn_path.specs.Below.{below, same_path}
 use Rattle.svn_dump.specs.History.{Setting, Action, delete, change, add, copy, Record}
 use Rattle.svn_dump.specs.Tree.{Tree, Entry, entry_at, mergeinfo_after, tree_without, tree_with_mergeinfo, entry_of_copy, tree_of, tree_after_action, tree_after_record, tree_from_revision, start_tree, end_tree}
-use Rattle.svn_dump.specs.declared.kind.Kind.{Kind}
-use Rattle.svn_dump.specs.declared.kind.Kind.TheVariants.{Dir}
+use Rattle.svn_dump.specs.declared.record.Kind.{Kind}
+use Rattle.svn_dump.specs.declared.record.Kind.TheVariants.{Dir}
 use Rattle.svn_dump.proofs.Trees.{settled_entry, entry_from}
 
 -- it holds of each entry of the tree

@@ -4,7 +4,7 @@ use Rattle.std.specs.Option.{option_or}
 use Rattle.svn_dump.specs.History.{Setting, delete, change, add, copy, Record, History}
 use Rattle.svn_dump.specs.Tree.{Tree, tree_after_record, start_tree, with_revision}
 use Rattle.svn_dump.specs.Fault.{Fault, fault_if_missing, fault_of_target, fault_of_source, fault_of, first_fault_in, first_fault_from}
-use Rattle.svn_dump.specs.declared.kind.Kind.{Kind}
+use Rattle.svn_dump.specs.declared.record.Kind.{Kind}
 
 -- how many records a history has
 abbrev pub record_count : {C M : Type 0} → History C M → ℕ

@@ -4,8 +4,8 @@ use Rattle.std.specs.Option.{option_or, option_map_or}
 use Rattle.svn_path.specs.Below.{below, is_below, same_path}
 use Rattle.svn_dump.specs.History.{Setting, Action, delete, change, add, copy}
 use Rattle.svn_dump.specs.Tree.{Tree, Entry, entry_at, mergeinfo_after, tree_without, tree_with_mergeinfo, entry_of_copy, tree_of, tree_after_action, first_tree, tree_from_revision}
-use Rattle.svn_dump.specs.declared.kind.Kind.{Kind}
-use Rattle.svn_dump.specs.declared.kind.Kind.TheVariants.{Dir}
+use Rattle.svn_dump.specs.declared.record.Kind.{Kind}
+use Rattle.svn_dump.specs.declared.record.Kind.TheVariants.{Dir}
 use Rattle.svn_path.proofs.Belows.{IsSame, below-itself, same_path-is}
 use Rattle.svn_dump.proofs.Belows.{same_path_front, same_path_by_below, same_path_comm, same_path_moved, other_from_below, apart_from_below}
 

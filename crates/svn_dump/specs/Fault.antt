@@ -4,7 +4,7 @@ use Rattle.std.specs.Option.{option_or}
 use Rattle.svn_path.specs.Below.{parent_of}
 use Rattle.svn_dump.specs.History.{Action, delete, change, add, copy, Record, History}
 use Rattle.svn_dump.specs.Tree.{Tree, Entry, entry_at, is_there, tree_of, tree_after_record, start_tree, with_revision}
-use Rattle.svn_dump.specs.declared.kind.Kind.TheVariants.{File, Dir}
+use Rattle.svn_dump.specs.declared.record.Kind.TheVariants.{File, Dir}
 
 pub data Fault : Type 0 where
   missing : Fault

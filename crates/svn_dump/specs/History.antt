@@ -1,7 +1,7 @@
 -- A history: for each revision its records, in the order in which they stand in the dump. `C` is what a component
 -- of a path is and `M` what a mergeinfo text is: numbers of a table in the layers below, bytes in a report.
 use Rattle.std.specs.Prelude.{ℕ, Bool, List, Option, map, option_map}
-use Rattle.svn_dump.specs.declared.kind.Kind.{Kind}
+use Rattle.svn_dump.specs.declared.record.Kind.{Kind}
 
 -- what a record does to the mergeinfo of its path: leave it, or put a text or none
 pub data Setting (M : Type 0) : Type 0 where

@@ -2,8 +2,8 @@
 use Rattle.std.specs.Prelude.{ℕ, Bool, true, false, List, Option, Some, None, bytes_eq, codes, option_and_then, option_map, if◌then◌else◌}
 use Rattle.svn_dump.specs.History.{Setting}
 use Rattle.svn_text.specs.Number.{greatest_revision, number_up_to}
-use Rattle.svn_dump.specs.declared.kind.Kind.{Kind}
-use Rattle.svn_dump.specs.declared.kind.Kind.TheVariants.{File, Dir}
+use Rattle.svn_dump.specs.declared.record.Kind.{Kind}
+use Rattle.svn_dump.specs.declared.record.Kind.TheVariants.{File, Dir}
 
 -- what a node block does; the first part of an addition and of a copy is whether it replaces what is there, and a copy
 -- names the revision and the path of its source

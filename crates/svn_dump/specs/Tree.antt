@@ -3,8 +3,8 @@
 use Rattle.std.specs.Prelude.{ℕ, Bool, not, List, [], ◌∷◌, ◌++◌, Option, Some, None, option_map, fold, filter, filter_map, map, length, is_some, slice_index_or, if◌then◌else◌}
 use Rattle.svn_path.specs.Below.{below, is_below, same_path}
 use Rattle.svn_dump.specs.History.{Setting, keep, put, Action, delete, change, add, copy, Record, History}
-use Rattle.svn_dump.specs.declared.kind.Kind.{Kind}
-use Rattle.svn_dump.specs.declared.kind.Kind.TheVariants.{Dir}
+use Rattle.svn_dump.specs.declared.record.Kind.{Kind}
+use Rattle.svn_dump.specs.declared.record.Kind.TheVariants.{Dir}
 
 -- a file or a directory, its mergeinfo text, and the path and the smaller revision that it came from
 pub record Entry (C M : Type 0) : Type 0 where

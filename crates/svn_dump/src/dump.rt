@@ -1,3 +1,4 @@
+//! A dump that was read.
 ghost use Rattle.std.specs.Prelude.{◌≡◌, ◌<◌, Some, length, slice_get};
 ghost use Rattle.svn_dump.specs.Dump.{IsDump};
 

@@ -1,3 +1,5 @@
+//! Why bytes are no dump.
+
 use crate::refusal::refusal_name;
 use std::alloc::{AllocError, AllocFailed};
 use thiserror::Error;

@@ -1,3 +1,4 @@
+//! Reading a dump piece by piece.
 ghost use Rattle.std.specs.Prelude.{◌≡◌, ◌+◌, ◌<◌, ◌^◌, ◌++◌, ℕ, List, [], None, Some, length, IfErr, IfOk, IfSome, IsErrOf, OnOk};
 ghost use Rattle.svn_dump.specs.Decided.{IsDecidedError, IsUndecided};
 ghost use Rattle.svn_dump.specs.Draft.{IsWholeHistory};

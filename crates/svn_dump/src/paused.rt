@@ -1,3 +1,4 @@
+//! A reader that waits for more of its dump.
 ghost use Rattle.std.specs.Prelude.{◌≡◌, ℕ, List, None};
 ghost use Rattle.svn_dump.specs.Draft.{IsWholeHistory};
 ghost use Rattle.svn_dump.specs.Feed.{HasRead, IsPausedAt};

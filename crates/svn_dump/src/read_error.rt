@@ -1,3 +1,4 @@
+//! Why reading stopped.
 ghost use Rattle.std.specs.Prelude.{◌≡◌};
 ghost use Rattle.svn_dump.specs.ReadError.{dump_error_at};
 

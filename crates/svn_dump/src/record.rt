@@ -1,9 +1,22 @@
 //! One record of a dump: what it does to a path in a revision.
 ghost use Rattle.std.specs.Prelude.{◌≡◌, IfOk};
 
-use crate::kind::Kind;
 use std::alloc::AllocError;
 use svn_path::Path;
+
+/// A path of an earlier revision, from which another path came.
+#[derive(Drop)]
+pub struct Origin {
+    pub path: Path,
+    pub rev: u32,
+}
+
+/// What stands at a path.
+#[derive(Clone, Copy, Debug, PartialEq, Eq)]
+pub enum Kind {
+    File,
+    Dir,
+}
 
 /// The number of a mergeinfo text in its dump.
 #[derive(Clone, Copy, Debug, PartialEq, Eq, PartialOrd, Ord, Hash)]

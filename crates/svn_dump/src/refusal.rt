@@ -1,3 +1,4 @@
+//! The reasons for which a dump is refused.
 ghost use Rattle.std.specs.Prelude.{◌≡◌};
 ghost use Rattle.svn_dump.specs.Refusal.{number_of_refusal, refusal_name_of};
 

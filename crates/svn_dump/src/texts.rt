@@ -1,3 +1,4 @@
+//! The mergeinfo texts of a dump.
 ghost use Rattle.std.specs.Prelude.{◌≡◌, ◌<◌, ◌≤◌, [], Some, bytes_eq, length, slice_get, ◌∷◌, IfErr, IfOk, OnErr};
 ghost use Rattle.std.specs.List.{IsDistinct};
 ghost use Rattle.svn_path.specs.Names.{most_names, with_name};

@@ -1,3 +1,5 @@
+//! Calls of which one fails.
+
 use std::alloc::AllocError;
 use std::sync::atomic::{AtomicUsize, Ordering};
 use std::thread::yield_now;

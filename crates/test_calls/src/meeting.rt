@@ -1,3 +1,5 @@
+//! Calls that wait for each other.
+
 use std::sync::atomic::{AtomicUsize, Ordering};
 use std::thread::yield_now;
 

@@ -1,3 +1,4 @@
+//! What a worker knows of a cell.
 ghost use Rattle.std.specs.Prelude.{◌≡◌, true, false, Some, None, IfOk, IfSome, IfNone, OnOk, OnErr, IsSome, IsTrue, IsFalse, is_some};
 ghost use Rattle.once_cell.specs.Once.{cell_name};
 ghost use Rattle.value_memo.specs.KnownCellValue.{unanswered, IsAnsweredCell};

@@ -13,10 +13,9 @@
 
 mod known_cell;
 mod memo;
-mod parsed;
 mod reading;
 mod seen;
 
 pub use memo::Memo;
-pub use parsed::Parsed;
+pub use reading::Parsed;
 pub use seen::Seen;

@@ -1,3 +1,4 @@
+//! Readings of texts that workers share.
 ghost use Rattle.std.specs.Prelude.{◌≡◌, ◌<◌, Some, IfOk, length, map, slice_get};
 ghost use Rattle.once_cell.specs.Once.{cell_name};
 ghost use Rattle.value_memo.specs.KnownCellValue.{unanswered};

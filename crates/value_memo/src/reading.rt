@@ -1,10 +1,19 @@
+//! What mergeinfo texts say.
 ghost use Rattle.std.specs.Prelude.{◌≡◌, IfOk};
 ghost use Rattle.merge_info.specs.CanonicalValue.{value_of};
 ghost use Rattle.value_memo.specs.Parsed.{parsed_view};
 
-use crate::parsed::Parsed;
 use merge_info::{MergeError, MergeInfo};
 use std::alloc::{AllocError, Global};
+
+/// What a mergeinfo text says: a value, or that it is malformed.
+#[derive(Clone, Copy)]
+pub enum Parsed<'a> {
+    /// The value of the text.
+    Good(&'a MergeInfo),
+    /// The text has no value.
+    Malformed,
+}
 
 /// A mergeinfo text and its value, or none where the text is malformed.
 #[derive(Drop)]

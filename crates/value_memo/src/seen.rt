@@ -1,3 +1,4 @@
+//! What a worker knows of a memo.
 ghost use Rattle.std.specs.Prelude.{◌≡◌, ◌<◌, ◌≤◌, true, Some, IfOk, IfSome, IfNone, IsOk, IsSome, OnOk, OnErr, length, slice_get};
 ghost use Rattle.std.specs.Borrow.{sem};
 ghost use Rattle.merge_info.specs.CanonicalValue.{value_of};
@@ -6,8 +7,7 @@ ghost use Rattle.value_memo.specs.SeenValue.{IsAnswered, MayAsk, asked_of, nothi
 
 use crate::known_cell::KnownCell;
 use crate::memo::Memo;
-use crate::parsed::Parsed;
-use crate::reading::Reading;
+use crate::reading::{Parsed, Reading};
 use std::alloc::{AllocError, Global};
 use std::marker::Model;
 use svn_dump::ValueId;

@@ -1,3 +1,5 @@
+//! The children of a node by their names.
+
 use crate::trie::node::NodeId;
 
 /// The number of a map; 0 is the empty one.

@@ -1,3 +1,4 @@
+//! Maps of children, which share what they have in common.
 ghost use Rattle.std.specs.Prelude.{◌≡◌, ◌<◌, ◌≤◌, ◌≢◌, ◌++◌, ◌∷◌, [], length, ◌+◌, ◌%◌, ◌==◌, if◌then◌else◌, IfOk, OnErr, OnOk};
 ghost use Rattle.block_map.specs.ChildMaps.{child_in, child_map_at, Extends, AreOrdered, HasOne, HasSides, HasTwo, HaveNodesBelow, IsOrderedAfter, SetsChild};
 

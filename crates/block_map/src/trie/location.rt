@@ -12,3 +12,12 @@ pub(crate) struct Location {
     pub(crate) path: Path,
     pub(crate) tick: u32,
 }
+
+/// A location without the path of the one above it.
+#[derive(Drop)]
+pub(crate) struct StoredLocation {
+    /// The location that it is below; none where `rest` is its whole path.
+    pub(crate) above: Option<LocationId>,
+    pub(crate) rest: Path,
+    pub(crate) tick: u32,
+}

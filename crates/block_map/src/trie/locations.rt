@@ -1,9 +1,9 @@
+//! The locations that nodes name.
 ghost use Rattle.std.specs.Prelude.{◌≡◌, ◌<◌, ◌++◌, ◌∷◌, [], Some, IfOk, IfSome, OnErr, OnOk, length, reverse, slice_get};
 ghost use Rattle.block_map.specs.Locations.{AddsBelow, IsLocationBelow, path_of, whole_location};
 
-use crate::trie::location::{Location, LocationId};
+use crate::trie::location::{Location, LocationId, StoredLocation};
 use crate::trie::numbers::next_number;
-use crate::trie::stored_location::StoredLocation;
 use std::alloc::{AllocError, Global};
 use std::marker::Model;
 use svn_path::{NameId, Path};

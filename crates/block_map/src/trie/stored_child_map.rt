@@ -1,3 +1,4 @@
+//! How a map of children is stored.
 ghost use Rattle.std.specs.Prelude.{◌≡◌, ◌<◌, ◌^◌, IfOk};
 ghost use Rattle.block_map.specs.StoredChildMaps.{child_map_of};
 

@@ -1,3 +1,4 @@
+//! The names of headers.
 ghost use Rattle.std.specs.Prelude.{◌≡◌, MatchOption};
 ghost use Rattle.svn_dump.specs.Field.{IsFieldOf, IsUnlisted, field_index};
 

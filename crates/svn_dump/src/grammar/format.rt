@@ -1,3 +1,5 @@
+//! The formats of dumps.
+
 /// A format of a dump, by the version that its first line gives.
 #[derive(Clone, Copy)]
 pub(crate) enum Format {

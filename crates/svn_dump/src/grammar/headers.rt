@@ -1,3 +1,4 @@
+//! The headers of a block.
 ghost use Rattle.std.specs.Prelude.{◌≡◌, [], option_copied, IfErr, OnOk, OnErr};
 ghost use Rattle.svn_dump.specs.Headers.{AddsHeader, AreHeaders, RepeatsHeader};
 ghost use Rattle.svn_dump.specs.HeaderValues.{are_of_node, field_value};

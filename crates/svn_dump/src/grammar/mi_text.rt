@@ -1,3 +1,4 @@
+//! The mergeinfo of a node block.
 ghost use Rattle.std.specs.Prelude.{◌≡◌, IfErr, IfOk, option_map};
 ghost use Rattle.svn_dump.specs.Draft.{Extends};
 ghost use Rattle.svn_dump.specs.HeaderValues.{mi_text_view, setting_from_section};

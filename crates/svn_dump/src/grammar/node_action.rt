@@ -1,3 +1,4 @@
+//! The actions of node blocks.
 ghost use Rattle.std.specs.Prelude.{◌≡◌, option_map};
 ghost use Rattle.svn_dump.specs.Node.{is_change, kind_of};
 ghost use Rattle.svn_dump.specs.Record.{has_late_source};
@@ -5,7 +6,7 @@ ghost use Rattle.svn_dump.specs.HeaderValues.{addition_from_headers, node_action
 
 use crate::grammar::field::Field;
 use crate::grammar::headers::Headers;
-use crate::kind::Kind;
+use crate::record::Kind;
 use svn_text::{GREATEST_REVISION, number_up_to};
 
 /// What a node block does, by its headers alone. The path of a copy's source is lent by the dump.

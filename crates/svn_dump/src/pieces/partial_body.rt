@@ -1,3 +1,4 @@
+//! The body of a block of which a part has come.
 ghost use Rattle.std.specs.Prelude.{◌≡◌, ◌≤◌, [], drop, take, IfOk, MatchOption};
 ghost use Rattle.svn_dump.specs.PartialBody.{EndsBody, ExtendsBody, IsPartialBody};
 

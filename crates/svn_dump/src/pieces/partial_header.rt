@@ -1,3 +1,4 @@
+//! The header of a block of which a part has come.
 ghost use Rattle.std.specs.Prelude.{◌≡◌, ◌≤◌, ◌+◌, ◌++◌, ◌∷◌, [], length, IsFalse, IsTrue, MatchOption, Some, IfErr, IfOk, OnOk};
 ghost use Rattle.std.specs.List.{list_any};
 ghost use Rattle.svn_dump.specs.FirstRefusal.{after_lines, front_refusals};

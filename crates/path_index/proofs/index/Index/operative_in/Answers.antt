@@ -5,7 +5,7 @@ use Rattle.path_index.proofs.HitsOfSegments.{AreHitsTo-more, hits-AreHitsTo}
 use Rattle.path_index.proofs.Operative.{hits_from-operative_of}
 use Rattle.path_index.specs.Index.{segment_view}
 use Rattle.path_index.specs.Range.{is_in_range}
-use Rattle.path_index.specs.declared.hit.Hit.{Hit}
+use Rattle.path_index.specs.declared.segment.Hit.{Hit}
 use Rattle.path_index.proofs.index.Index.operative_in.Goals as goal
 use Rattle.path_index.proofs.index.Index.operative_in.Goals.{in-Some+in_ok-push_operative, in_default}
 

@@ -8,7 +8,7 @@ use Rattle.svn_path.proofs.Orders.{paths_eq-Decides}
 use Rattle.path_index.specs.History.{trees_to}
 use Rattle.path_index.specs.Segment.{Segment, segments_of}
 use Rattle.path_index.specs.Index.{IsThere, gap_between, segment_view}
-use Rattle.svn_dump.specs.declared.origin.Origin.{Origin}
+use Rattle.svn_dump.specs.declared.record.Origin.{Origin}
 use Rattle.svn_dump.specs.declared.record.NodeRecord.{NodeRecord}
 use Rattle.path_index.proofs.Segments.{AreSegments-segments_of}
 use Rattle.path_index.proofs.Traces.{IsGathered, IsGathered-none, IsGathered-all, IsGathered-on, IsGathered_push}
