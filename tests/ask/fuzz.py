@@ -52,7 +52,7 @@ SHOWN = re.compile(r"svnask: [^\x00-\x1f\x7f-\x9f]+(?:\n[^\x00-\x1f\x7f-\x9f]+)*
 # What is said beside an answer.
 NOTICES = re.compile(
     r"(?:svnask: (?:no path matches '{0}'|there is no {0}, so name paths by a PATTERN|there is no trunk beside '{0}', {0}"
-    r"|a path with a tab or a newline is left out: '{0}'|of what matches, {0}|what matches is the target itself: {0})\n)*".replace(
+    r"|a path with a tab or a newline is left out: '{0}'|of what matches, {0}|E200020: the mergeinfo of '{0}' can't be read|what matches is the target itself: {0})\n)*".replace(
         "{0}", r"[^\x00-\x1f\x7f-\x9f]+"
     )
 )
@@ -150,17 +150,18 @@ def words_of(chance: random.Random, folder: Path) -> list[str]:
              *some("--log", "--log", "--depth=" + chance.choice(("empty", "infinity", "files")), "-q", "-v",
                    "--incremental")],
             ["propget", "svn:mergeinfo", *pair[: chance.choice((0, 1, 2))], *some("-R", "-v", "--strict")],
-            ["check-mergeinfo", *patterns], ["heirs", target(), *some(revision)],
-            ["new", *pair, *some("-v")], ["unmerged", *patterns, "--log", *some("--into=" + target())],
-            ["where", target(), revision], ["segments", target()], ["branches", *patterns],
-            ["contains", revision, *patterns], ["info"], ["unmerged", *patterns, *some("--into=" + target())],
-            ["changed-tags", *patterns], ["graph", *patterns, *some("--since=" + revision, "--by-time", "--width=" + number, "--height=" + number, "--unfolded")], ["record", number], ["byte", number],
+            ["check-mergeinfo", *patterns], ["heirs", target(), *some(revision, "--log")],
+            ["new", *pair, *some("-v", "--log")], ["unmerged", *patterns, "--log", *some("--into=" + target())],
+            ["where", target(), revision], ["segments", target()],
+            ["branches", *patterns, *some("--ahead-behind", "--ahead-behind=" + target(), "--log")],
+            ["contains", revision, *patterns, *some(revision, "-r" + bounds, "--search=" + target(), "--in=" + target(), "--log")], ["info"], ["unmerged", *patterns, *some("--into=" + target())],
+            ["changed-tags", *patterns, *some("--log")], ["graph", *patterns, *some("--since=" + revision, "--by-time", "--width=" + number, "--height=" + number, "--unfolded")], ["record", number], ["byte", number],
             ["ask", str(folder / "queries")], ["update", *some("--properties")], ["forget"], ["sources"], ["stop"],
             ["serve", "--stop-after=0"], ["shell"],
         )
     )
     # fmt: on
-    common = some("--json", "--no-cache") + ["--offline"] * (chance.random() < 0.1)
+    common = some("--json", "--csv", "--no-cache") + ["--offline"] * (chance.random() < 0.1)
     return found + common + (some("--bogus", "more") if chance.random() < 0.1 else [])
 
 

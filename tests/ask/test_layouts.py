@@ -164,7 +164,10 @@ class Kept(base.Case):
     def test_update_of_a_dump_that_is_refused(self) -> None:
         dump = self.made("dump", dump_of([added(b"a"), added(b"a")]))
         done = base.called(dump, "update")
-        self.assertEqual((done.status, done.said), (1, "svnask: dump refused: 17 Exists at record 2\n"))
+        self.assertEqual(
+            (done.status, done.said),
+            (1, "svnask: dump refused: 17 Exists at record 2\nrecord 2: r1 add /a, at byte 117\n"),
+        )
 
     def test_a_working_folder_that_was_deleted(self) -> None:
         line = 'mkdir gone && cd gone && rmdir "$PWD" && exec "$@"'

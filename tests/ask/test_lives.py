@@ -90,7 +90,7 @@ class Branches(base.Case):
 
     def test_what_is_said_of_a_life(self) -> None:
         lines = base.called(self.repository(), "branches", "/branches/*").output.decode().splitlines()
-        self.assertEqual(lines[1].split("\t")[-2:], ["ended in r5", "moved to /branches/two"])
+        self.assertEqual(lines[1].split("\t")[-2:], ["ended in r5, moved to /branches/two", "branch"])
         self.assertEqual(lines[2].split("\t")[-1], "folder")
         self.assertTrue(lines[3].split("\t")[2].startswith("moved from /branches/one@4"))
 
@@ -106,7 +106,9 @@ class Branches(base.Case):
     def test_unmerged_with_messages(self) -> None:
         dump = base.dump_of("merges")
         lines = base.called(dump, "unmerged", "--log", "/trunk", "--into", "branches/two").output.splitlines()
-        self.assertEqual(lines[0], b"/trunk\tr11\tcarol\tMerge the branch back")
+        self.assertEqual(
+            lines[0], b"/trunk\tr11\tcarol\t2024-01-01 00:11:00 +0000 (Mon, 01 Jan 2024)\tMerge the branch back"
+        )
         done = base.called("--json", dump, "unmerged", "/trunk", "--into", "branches/two")
         found = [json.loads(line) for line in done.output.splitlines()]
         self.assertEqual(

@@ -51,7 +51,7 @@ class Log(base.Case):
         found = branches.operative(lives, history.ask(branches.logs_of(lives)))
         self.assertEqual([(life.first, life.last, found[life]) for life in lives], [(1, 2, [1, 2]), (3, 6, [3, 4, 6])])
         self.assertIn(
-            b"\tr3-r6\tmoved from /trunk/a@2\tchanged in r6\n",
+            b"\tr3-r6\tmoved from /trunk/a@2\tchanged in r6\t",
             base.called(self.made("renewed", RENEWED), "branches", "/trunk/a").output,
         )
 

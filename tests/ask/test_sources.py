@@ -50,6 +50,23 @@ class Case(base.Case):
         self.assertTrue(done.said.startswith(f"svnask: {said}"), done)
 
 
+class WorkingCopies(Case):
+    def test_a_working_copy_stands_for_its_url(self) -> None:
+        made = self.repository()
+        folder = self.folder / "copy@2"
+        running.run(["svn", "checkout", "-q", f"{made.url}/trunk", folder], base.NOTHING)
+        for place, below in ((folder, "trunk"), (folder / "lib", "trunk/lib")):
+            for words in (["log", "-v"], ["segments", ""], ["mergeinfo", ""]):
+                self.assertEqual(self.asked(place, *words), self.asked(f"{made.url}/{below}", *words), (place, words))
+        self.assertEqual(self.asked(folder, "--offline", "info"), self.asked(made.url, "info"))
+
+    def test_what_is_not_versioned_is_no_source(self) -> None:
+        made = self.repository()
+        running.run(["svn", "checkout", "-q", made.url, self.folder / "copy"], base.NOTHING)
+        (self.folder / "copy" / "new").mkdir()
+        self.check_said(base.called(self.folder / "copy" / "new", "log"), 1, "W155010: ")
+
+
 class Words(Case):
     def test_targets_are_named_by_urls_and_below_them(self) -> None:
         made = self.repository()

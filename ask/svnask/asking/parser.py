@@ -86,9 +86,12 @@ def parser(asked: str | None = None) -> Parser:
     """The parser of the command line, with the verb that is asked and its arguments, or with all verbs by name alone."""
     made = Parser(argparse.RawDescriptionHelpFormatter, prog="svnask", description=ABOUT, epilog=EXAMPLES)
     made.add_argument(
-        "dump", metavar="SOURCE", help="a dump, - for one from the standard input, the folder of a repository, or a URL"
+        "dump",
+        metavar="SOURCE",
+        help="a dump, - for one from the standard input, the folder of a repository, a working copy, or a URL",
     )
     made.add_argument("--json", action="store_true", help="print one object per line, for scripts")
+    made.add_argument("--csv", action="store_true", help="print a table of comma-separated values")
     made.add_argument("--no-cache", action="store_true", help="read the source anew, and keep nothing of it")
     made.add_argument("--offline", action="store_true", help="answer from what is kept, without asking the repository")
     made.add_argument(
@@ -99,7 +102,7 @@ def parser(asked: str | None = None) -> Parser:
 
     for name in HELP if asked is None else [asked]:
         below = verbs.add_parser(name, help=HELP[name], description=HELP[name])
-        for option in ("--json", "--no-cache", "--offline"):
+        for option in ("--json", "--csv", "--no-cache", "--offline"):
             below.add_argument(option, action="store_true", default=argparse.SUPPRESS, help=argparse.SUPPRESS)
         below.add_argument("--below", metavar="PATH", default=argparse.SUPPRESS, help=argparse.SUPPRESS)
         if name == asked:
@@ -121,7 +124,12 @@ def parsed(words: list[str]) -> argparse.Namespace:
     ready = with_source(left, HELP)
     need_source(ready)
     asked = next((ready[at] for at in places(ready)[1:2] if ready[at] in HELP), None)
-    return parser(asked).parse_args(ordered_words(ready), argparse.Namespace(access=Access(access)))
+    found = parser(asked).parse_args(ordered_words(ready), argparse.Namespace(access=Access(access)))
+    if found.csv and found.json:
+        raise Usage("--csv and --json exclude each other")
+    if found.csv and not verb_named(found.verb).columns:
+        raise Usage(f"{found.verb} prints no table: it is not taken with --csv")
+    return found
 
 
 def need_source(words: list[str]) -> None:

@@ -19,9 +19,10 @@ from svnask.sources.source import Source
 from svnask.texts import say
 
 if TYPE_CHECKING:
-    from svnask.asking import refusals
+    from svnask.asking import refusals, table
 else:
     refusals = Lazy("svnask.asking.refusals")
+    table = Lazy("svnask.asking.table")
 
 # The refusals that come from records which lack others.
 OF_HIDDEN = (16, 18, 19)
@@ -53,6 +54,9 @@ def answer_lines(history: OpenHistory, given: argparse.Namespace) -> Iterator[by
         history.begin()
         if not history.is_whole:
             history.check()
+    if given.csv:
+        yield from table.csv_lines(verb, history, given)
+        return
     if not given.json:
         yield from verb.text(history, given)
         return

@@ -4,7 +4,7 @@ from __future__ import annotations
 import re
 import sys
 from argparse import ArgumentParser, ArgumentTypeError, Namespace
-from collections.abc import Iterable, Iterator
+from collections.abc import Iterable, Iterator, Sequence
 from typing import TYPE_CHECKING, Any
 
 from svnask.digits import number
@@ -19,11 +19,16 @@ if TYPE_CHECKING:
     from svnask.copy.changes import Change
     from svnask.copy.store import Record
     from svnask.history.lives import Life
+    from svnask.log import plain
     from svnask.paths import Place
 else:
     json = Lazy("json")
+    plain = Lazy("svnask.log.plain")
 
 Object = dict[str, Any]
+# The columns that `--log` adds, and those of a changed path.
+OF_LOG = ("author", "date", "message")
+OF_CHANGE = ("action", "path", "kind", "text", "properties", "from.path", "from.revision")
 
 
 class Verb:
@@ -37,6 +42,8 @@ class Verb:
     needs_history = True
     # Whether a dump that is refused has no answer.
     judges = True
+    # The fields of its objects that are the columns of a table, if it has one; what is in an object follows a dot.
+    columns: Sequence[str] = ()
 
     def arguments(self, parser: ArgumentParser) -> None:
         """Tell the parser what follows the verb."""
@@ -48,6 +55,14 @@ class Verb:
     def objects(self, history: OpenHistory, given: Namespace) -> Iterator[Object]:
         """Return the same for a script, one object a line."""
         return iter(())
+
+    def columns_for(self, given: Namespace) -> Sequence[str]:
+        """Return the columns by the options of a question."""
+        return [*self.columns, *OF_LOG * (getattr(given, "log", False) and "message" not in self.columns)]
+
+    def rows(self, history: OpenHistory, given: Namespace) -> Iterator[Object]:
+        """Return the objects of which each is a row of a table."""
+        return self.objects(history, given)
 
     def run(self, given: Namespace) -> int:
         """Do what needs no open history, and return the status."""
@@ -77,6 +92,21 @@ def add_patterns(parser: ArgumentParser, default: str) -> None:
     )
 
 
+def add_log(parser: ArgumentParser) -> None:
+    parser.add_argument(
+        "--log", action="store_true", help="also author, date and first line of the message of each revision"
+    )
+
+
+def fields_of_log(history: OpenHistory, rev: int | None, given: Namespace) -> list[bytes]:
+    """The fields that `--log` adds to a line, which perhaps names no revision."""
+    return [] if not given.log else [b"-"] * 3 if rev is None else plain.about(history.revision(rev))
+
+
+def fields_line(fields: Iterable[bytes]) -> bytes:
+    return b"\t".join(fields) + b"\n"
+
+
 def counted(text: str) -> int:
     """The number that an argument is."""
     if re.match("[0-9]+\\Z", text) is None:
@@ -93,21 +123,28 @@ def object_of_place(place: Place) -> Object:
 
 
 def object_of_change(change: Change) -> Object:
-    found: Object = {"path": decoded(change.path), "action": change.letter}
+    found: Object = {"path": decoded(change.path), "action": change.letter, "kind": change.kind}
+    found.update(text=change.has_text, properties=change.has_properties)
     if change.source:
         found["from"] = object_of_place(change.source)
     return found
 
 
-def object_of_revision(history: OpenHistory, rev: int) -> Object:
+def rows_of_changes(found: Iterable[Object]) -> Iterator[Object]:
+    """Return a row for each changed path of some revisions, and one for a revision that changed none."""
+    return ({**each, **change} for each in found for change in each["changes"] or [{}])
+
+
+def object_of_log(history: OpenHistory, rev: int) -> Object:
+    """The author, the date and the message of a revision."""
     revision = history.revision(rev)
-    return {
-        "revision": rev,
-        "author": shown(revision.author),
-        "date": shown(revision.date),
-        "message": shown(revision.message),
-        "changes": [object_of_change(each) for each in history.changes(rev)],
-    }
+    return {"author": shown(revision.author), "date": shown(revision.date), "message": shown(revision.message)}
+
+
+def object_of_revision(history: OpenHistory, rev: int) -> Object:
+    history.find_kinds([rev])
+    changes = [object_of_change(each) for each in history.changes(rev)]
+    return {"revision": rev, **object_of_log(history, rev), "changes": changes}
 
 
 def object_of_record(record: Record) -> Object:

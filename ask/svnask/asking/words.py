@@ -12,8 +12,10 @@ from svnask.sources.access import IS_URL, REACHED, split_access
 LONG = {"-r": "--revision", "-c": "--change", "-l": "--limit", "-o": "--output"}
 VALUED = frozenset(
     (*LONG.values(), *REACHED, "--into", "--show-revs", "--depth", "--with-revprop", "--search", "--search-and")
-    + ("--since", "--width", "--height", "--below", "--targets")
+    + ("--since", "--width", "--height", "--below", "--targets", "--in")
 )
+# Those that take one only after an equals sign.
+OPTIONAL = frozenset(("--ahead-behind",))
 NUMBER = re.compile("-[0-9]")
 # The verbs that svn has, too, and the one that is about all sources.
 OF_SVN, OF_ALL = ("log", "mergeinfo"), "sources"
@@ -33,6 +35,8 @@ def joined_options(arguments: Iterable[str]) -> list[str]:
             value = word[2:]
         elif name in VALUED:
             value = next(left, None)
+        elif name in OPTIONAL:
+            value = ""
         found.append(word if value is None else f"{name}={value}")
     return found
 

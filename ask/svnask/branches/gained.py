@@ -35,6 +35,10 @@ class HeldRevisions(NamedTuple):
     def how(self, rev: int) -> str:
         return "history" if rev in self.own else "merged" if rev in self.merged else "merged in part"
 
+    def beside(self, other: HeldRevisions) -> set[int]:
+        """The revisions that another one lacks."""
+        return (self.own | self.merged | (self.partial - other.partial)) - other.own - other.merged - {0}
+
 
 class Gained(NamedTuple):
     """A revision that came in, and how it is had."""
@@ -61,7 +65,7 @@ def queries_of_source(tree: Tree, head: int, path: bytes, runs: Iterable[Run]) -
                 yield NamedPart(path, Log(path, hi, (lo, hi)), run.inheritable)
 
 
-def held_by(history: OpenHistory, targets: Sequence[Target]) -> list[HeldRevisions]:
+def held_by(history: OpenHistory, targets: Sequence[Target], recorded: Recorded | None = None) -> list[HeldRevisions]:
     """Return what each of some targets has."""
     answers = history.answers(
         query for each in targets for query in (LocationSegments(*each), Log(*each), Mergeinfo(*each))
@@ -80,8 +84,8 @@ def held_by(history: OpenHistory, targets: Sequence[Target]) -> list[HeldRevisio
         for target in targets
     }
     answers.update(history.answers(part.query for each in parts.values() for part in each))
-    recorded = Recorded(history).of(targets)
-    return [held_of(history, answers, target, parts[target], of_target) for target, of_target in zip(targets, recorded)]
+    alone = (recorded or Recorded(history)).of(targets)
+    return [held_of(history, answers, target, parts[target], of_target) for target, of_target in zip(targets, alone)]
 
 
 def held_of(
@@ -111,10 +115,45 @@ def gained(history: OpenHistory, before: Target, after: Target) -> list[Gained]:
     """The revisions that the second target has and the first one lacks, the newest first. Those that only copied are
     left out."""
     of_before, of_after = held_by(history, [before, after])
-    whole = of_before.own | of_before.merged
-    revisions = (of_after.own | of_after.merged | (of_after.partial - of_before.partial)) - whole
     return [
         Gained(rev, of_after.how(rev))
-        for rev in sorted(revisions, reverse=True)
-        if rev > 0 and not is_copy_alone(history, rev)
+        for rev in sorted(of_after.beside(of_before), reverse=True)
+        if not is_copy_alone(history, rev)
     ]
+
+
+class Distance(NamedTuple):
+    """The numbers of revisions that a path has and a target lacks, and the other way round."""
+
+    ahead: int
+    behind: int
+
+
+class Distances:
+    """The distances of paths from targets, by the revisions that `gained` lists."""
+
+    def __init__(self, history: OpenHistory) -> None:
+        self._history = history
+        self._recorded = Recorded(history)
+        self._held: dict[Target, HeldRevisions] = {}
+        self._copies: dict[int, bool] = {}
+
+    def of(self, path: Target, target: Target) -> Distance:
+        of_target = self.held(target)
+        (held,) = held_by(self._history, [path], self._recorded)
+        return Distance(self._count(held.beside(of_target)), self._count(of_target.beside(held)))
+
+    def held(self, target: Target) -> HeldRevisions:
+        """Return what a target has, which is kept."""
+        if target not in self._held:
+            (self._held[target],) = held_by(self._history, [target], self._recorded)
+        return self._held[target]
+
+    def _count(self, revisions: Iterable[int]) -> int:
+        """Return how many revisions did not only copy."""
+        count = 0
+        for rev in revisions:
+            if rev not in self._copies:
+                self._copies[rev] = is_copy_alone(self._history, rev)
+            count += not self._copies[rev]
+        return count

@@ -163,33 +163,54 @@ class HolderQueries(NamedTuple):
             yield self.where
 
 
+class Held(NamedTuple):
+    """A revision that a branch or a tag has."""
+
+    rev: int
+    holder: Holder
+
+
 def holders(history: OpenHistory, patterns: Sequence[bytes], rev: int) -> Iterator[Holder]:
     """The branches and tags of today that have a revision of one of them."""
-    changed = {change.path for change in history.changes(rev)}
+    return (each.holder for each in holders_of_all(history, patterns, [rev]))
+
+
+def holders_of_all(history: OpenHistory, patterns: Sequence[bytes], revs: Sequence[int]) -> Iterator[Held]:
+    """Yield what the branches and tags of today have of some rising revisions, revision after revision."""
     alive = alive_in(history, lives_of(history, patterns))
+    if not revs:
+        return
+    bounds = (revs[0], revs[-1])
+    for rev in bounds:
+        # A script may ask for one that there is not.
+        history.changes(rev)
     lists_more = log.may_list_more(history)
     places = [(life.path, history.head) for life in alive]
     asked = [
         HolderQueries(
-            Log(*place, (rev, rev)),
+            Log(*place, bounds),
             Mergeinfo(*place),
             LocationSegments(*place) if lists_more or place[0] == b"/" else None,
         )
         for place in places
     ]
     answers = history.answers(query for each in asked for query in each.queries())
-    found: dict[bytes, str] = {}
-    named: dict[bytes, list[Naming]] = {}
+    changed = ChangedPaths(history)
+    found: dict[int, dict[bytes, str]] = {rev: {} for rev in revs}
+    named: dict[bytes, dict[int, list[Naming]]] = {}
     for life, each in zip(alive, asked):
         segments, value = [] if each.where is None else answers[each.where].segments, answers[each.value]
-        if rev in log.listed(history, log.Trace(segments, answered(answers[each.log]))):
-            found[life.path] = HISTORY
-        elif value.ok:
-            named[life.path] = list(namings(history, value.value, changed, rev))
+        own = found.keys() & set(log.listed(history, log.Trace(segments, answered(answers[each.log]))))
+        for rev in own:
+            found[rev][life.path] = HISTORY
+        if value.ok and len(own) < len(revs):
+            named[life.path] = namings(history, value.value, [rev for rev in revs if rev not in own], changed)
     paths = [path for path, namings_of in named.items() if namings_of]
     for path, recorded in zip(paths, Recorded(history).of((path, history.head) for path in paths)):
-        found[path] = how_merged(named[path], recorded, rev)
-    yield from (Holder(life.path, found[life.path]) for life in alive if life.path in found)
+        for rev, namings_of in named[path].items():
+            found[rev][path] = how_merged(namings_of, recorded, rev)
+    for rev in revs:
+        yield from (Held(rev, Holder(life.path, found[rev][life.path])) for life in alive if life.path in found[rev])
 
 
 class Naming(NamedTuple):
@@ -199,14 +220,30 @@ class Naming(NamedTuple):
     is_whole: bool
 
 
-def namings(history: OpenHistory, value: dict[bytes, str], changed: set[bytes], rev: int) -> Iterator[Naming]:
-    """The sources of which mergeinfo has a revision, and which the revision changed, given all that it changed."""
+class ChangedPaths(dict[int, set[bytes]]):
+    """The changed paths of revisions, each found once."""
+
+    def __init__(self, history: OpenHistory) -> None:
+        super().__init__()
+        self._history = history
+
+    def __missing__(self, rev: int) -> set[bytes]:
+        found = self[rev] = {change.path for change in self._history.changes(rev)}
+        return found
+
+
+def namings(
+    history: OpenHistory, value: dict[bytes, str], revs: Sequence[int], changed: ChangedPaths
+) -> dict[int, list[Naming]]:
+    """The sources of which mergeinfo has rising revisions, and which the revision changed, by revisions."""
+    found: dict[int, list[Naming]] = {}
     for source, ranges in value.items():
+        tops = frozenset(tops_of(source))
         for run in runs_of(ranges.encode("ascii")):
-            if run.lo <= rev <= run.hi and (
-                not changed.isdisjoint(tops_of(source)) or history.changes_below(rev, source)
-            ):
-                yield Naming(source, run.inheritable)
+            for rev in in_range(revs, run.lo, run.hi):
+                if not changed[rev].isdisjoint(tops) or history.changes_below(rev, source):
+                    found.setdefault(rev, []).append(Naming(source, run.inheritable))
+    return found
 
 
 def how_merged(named: Sequence[Naming], recorded: Merged, rev: int) -> str:

@@ -25,13 +25,13 @@ def count_of_lines(message: bytes) -> int:
     return 1 + (len(LINE_END.findall(message)) if b"\r" in message else message.count(b"\n"))
 
 
-def summary_of(revision: Revision) -> bytes:
-    """The author and the first line of the message."""
-    return author_of(revision) + b"\t" + first_line(revision)
-
-
 def date_of(revision: Revision) -> bytes:
     return dates.shown_date(revision.date).encode("ascii")
+
+
+def about(revision: Revision) -> list[bytes]:
+    """The author, the date and the first line of the message."""
+    return [author_of(revision), date_of(revision), first_line(revision)]
 
 
 def head_line(revision: Revision) -> bytes:
@@ -65,11 +65,11 @@ class PlainForm(Form):
     def entry(self, entry: LogEntry) -> bytes:
         (number, author, date, message, _, _), changes, via, is_reverse, _ = entry
         author = b"(no author)" if author is None else author
-        about = b"%sr%d | %s | %s" % (RULE, number, author, self._shown(date))
+        head = b"%sr%d | %s | %s" % (RULE, number, author, self._shown(date))
         paths = b"Changed paths:\n%s\n" % b"\n".join([change.line() for change in changes]) if changes else b""
         merges = self._text_of(via, is_reverse) if via else b""
         if not self.has_messages:
-            return b"%s\n%s%s" % (about, paths, merges)
+            return b"%s\n%s%s" % (head, paths, merges)
         message = message or b""
         count = count_of_lines(message)
-        return b"%s | %d line%s\n%s%s\n%s\n" % (about, count, b"" if count == 1 else b"s", paths, merges, message)
+        return b"%s | %d line%s\n%s%s\n%s\n" % (head, count, b"" if count == 1 else b"s", paths, merges, message)

@@ -84,7 +84,7 @@ def answer_line(source: OpenSource, given: argparse.Namespace, line: str) -> int
 
 
 def question(given: argparse.Namespace, words: list[str]) -> argparse.Namespace:
-    options = ["--json"] * given.json + ["--no-cache"] * given.no_cache + ["--offline"] * given.offline
+    options = [f"--{name}".replace("_", "-") for name in ("json", "csv", "no_cache", "offline") if getattr(given, name)]
     options += [f"--below={given.below}"] * bool(given.below)
     found = parsed([*options, given.dump, *words])
     if not verb_named(found.verb).needs_history:

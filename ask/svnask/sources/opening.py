@@ -35,6 +35,8 @@ def source_of(name: str, access: Access = Access(), is_offline: bool = False) ->
         folder = repository.Folder(name, access)
         if is_repository or folder.is_kept:
             return folder
+    if is_working_copy(name):
+        return repository.Address(repository.url_of_working_copy(name), access, is_offline)
     return Dump(name, opened_file(name, is_offline))
 
 
@@ -48,18 +50,21 @@ def opened_file(name: str, is_offline: bool) -> BinaryIO | None:
             say("svnask: waiting for a dump from the terminal, as 'svnadmin dump -q REPO | svnask - ..' gives one")
         return sys.stdin.buffer
     except IsADirectoryError as error:
-        raise Failed(about_folder(name)) from error
+        raise Failed(f"{name} is a directory, but no repository and no working copy") from error
     except (OSError, ValueError) as error:
         if is_offline:
             return None
         raise Failed("cannot read %s: %s" % (name, getattr(error, "strerror", error))) from error
 
 
-def about_folder(name: str) -> str:
-    """Why a folder is not a source, and for a working copy what to name in its place."""
-    if os.path.isdir(os.path.join(name, ".svn")):
-        return f"{name} is a working copy: give its URL, which 'svn info --show-item url' prints"
-    return f"{name} is a directory, but not a repository"
+def is_working_copy(name: str) -> bool:
+    """Return whether a folder is a working copy of Subversion, or is in one."""
+    folder, below = os.path.realpath(name), ""
+    while os.path.isdir(name) and folder != below:
+        if os.path.isdir(os.path.join(folder, ".svn")):
+            return True
+        folder, below = os.path.dirname(folder), folder
+    return False
 
 
 def with_properties(source: Source, progress: Progress) -> None:

@@ -166,6 +166,11 @@ class Folder(SubversionSource):
         return os.fsencode(self.folder)
 
 
+def url_of_working_copy(folder: str) -> str:
+    """Return the URL for which a working copy stands."""
+    return Subversion().url_of(folder)
+
+
 class Address(SubversionSource):
     """A repository by a URL, which may be that of a path in it."""
 

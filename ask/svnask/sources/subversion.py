@@ -64,6 +64,14 @@ class Subversion(NamedTuple):
             raise Failed("svn info printed something other than a repository")
         return Repository(canonical(root), uuid.encode("utf-8"), int(found[0].attrib["revision"]))
 
+    def url_of(self, folder: str) -> str:
+        """Return the URL of a working copy, which asks no server."""
+        with output_of("svn", "info", "--xml", without_peg(folder)) as stream:
+            found = [each.findtext("url") for each in elements(stream, "entry")]
+        if not found or found[0] is None:
+            raise Failed(f"svn info printed no URL of {folder}")
+        return found[0]
+
     def _youngest(self, root: str) -> int:
         with output_of("svn", "log", "--xml", "-q", "-r", "HEAD", *self.words, without_peg(root)) as stream:
             return max((int(each.attrib["revision"]) for each in elements(stream, "logentry")), default=0)

@@ -12,6 +12,8 @@ from svnask.texts import decoded, encoded
 
 
 class CheckMergeinfoVerb(Verb):
+    columns = ("path", "source", "ranges", "reason")
+
     def arguments(self, parser: ArgumentParser) -> None:
         add_patterns(parser, "all paths")
 

@@ -2,32 +2,84 @@
 from __future__ import annotations
 
 from argparse import ArgumentParser, Namespace
-from collections.abc import Iterator
+from collections.abc import Iterator, Sequence
 
-from svnask.asking.verb import Object, Verb, add_patterns, patterns_of
+from svnask.asking.verb import Object, Verb, add_log, add_patterns, fields_line, fields_of_log, object_of_log
 from svnask.branches import questions as branches
+from svnask.cli.verbs.log import glob_of
+from svnask.errors import Usage
 from svnask.history.open_history import OpenHistory
-from svnask.history.targets import known, revision_of
+from svnask.history.targets import DATE, NUMBER, known, pattern_of, range_of, revision_of
+from svnask.log.forms import SHOWN, as_wanted
+from svnask.log.plain import author_of, date_of
+from svnask.log.search import Glob, is_found
 from svnask.texts import decoded
+
+OF_RANGES = "the revisions from LO to HI; may be repeated"
+OF_SEARCH = "the revisions whose author, date or message match, as for log; may be repeated"
+OF_IN = "the same as a PATTERN, also where it looks like a revision; may be repeated"
 
 
 class ContainsVerb(Verb):
-    def arguments(self, parser: ArgumentParser) -> None:
-        parser.add_argument("revision", metavar="REV")
-        add_patterns(parser, "**")
+    columns = ("revision", "path", "how")
 
-    def holders(self, history: OpenHistory, given: Namespace) -> Iterator[branches.Holder]:
-        return branches.holders(
-            history, patterns_of(history, given), known(history, revision_of(history, given.revision))
+    def arguments(self, parser: ArgumentParser) -> None:
+        parser.add_argument("revision", metavar="REV", nargs="?", help="a number, HEAD or a {DATE}; others may follow")
+        add_patterns(parser, "**")
+        parser.add_argument(
+            "-r", "--revision", dest="ranges", metavar="LO:HI", action="append", default=[], help=OF_RANGES
         )
+        parser.add_argument("--search", metavar="PATTERN", action="append", default=[], help=OF_SEARCH)
+        parser.add_argument("--in", dest="inside", metavar="PATTERN", action="append", default=[], help=OF_IN)
+        add_log(parser)
+
+    def held(self, history: OpenHistory, given: Namespace) -> Iterator[branches.Held]:
+        """Yield each revision that is asked about with each path that has it."""
+        words, patterns = split_words([*filter(None, [given.revision]), *given.patterns])
+        if not words and not given.ranges and not given.search:
+            for word in patterns[:1]:
+                revision_of(history, word)
+            raise Usage("the following arguments are required: REV: 'svnask contains --help' says what they are")
+        found = {known(history, revision_of(history, word)) for word in words}
+        for text in given.ranges:
+            lo, hi = sorted(known(history, rev) for rev in range_of(history, text))
+            found.update(range(max(lo, 1), hi + 1))
+        found.update(searched(history, [glob_of(word) for word in given.search]))
+        asked = [pattern_of(history, pattern) for pattern in (*patterns, *given.inside)]
+        return branches.holders_of_all(history, asked, sorted(found))
+
+    def is_about_one(self, given: Namespace) -> bool:
+        words, _ = split_words([*filter(None, [given.revision]), *given.patterns])
+        return len(words) == 1 and not given.ranges and not given.search
 
     def text(self, history: OpenHistory, given: Namespace) -> Iterator[bytes]:
-        for path, how in self.holders(history, given):
-            yield b"%s\t%s\n" % (path, how.encode())
+        is_one = self.is_about_one(given)
+        for rev, (path, how) in self.held(history, given):
+            named = [] if is_one else [b"r%d" % rev]
+            yield fields_line([*named, path, how.encode("ascii"), *fields_of_log(history, rev, given)])
 
     def objects(self, history: OpenHistory, given: Namespace) -> Iterator[Object]:
-        for path, how in self.holders(history, given):
-            yield {"path": decoded(path), "how": how}
+        for rev, (path, how) in self.held(history, given):
+            about = object_of_log(history, rev) if given.log else {}
+            yield {"path": decoded(path), "how": how, "revision": rev, **about}
+
+
+def split_words(words: Sequence[str]) -> tuple[list[str], list[str]]:
+    """The words that are revisions, and those that are patterns."""
+    return [*filter(is_revision, words)], [word for word in words if not is_revision(word)]
+
+
+def is_revision(word: str) -> bool:
+    return bool(NUMBER.match(word) or DATE.match(word) or word.upper() == "HEAD")
+
+
+def searched(history: OpenHistory, globs: Sequence[Glob]) -> Iterator[int]:
+    """The revisions of which a text matches one of some patterns."""
+    groups = [[glob] for glob in globs]
+    for rev in range(1, history.head + 1) if groups else ():
+        revision = as_wanted(history.revision(rev), SHOWN)
+        if is_found(groups, [author_of(revision), date_of(revision), revision.message or b""]):
+            yield rev
 
 
 VERB = ContainsVerb()

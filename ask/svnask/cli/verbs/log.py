@@ -3,10 +3,10 @@ from __future__ import annotations
 
 import re
 from argparse import SUPPRESS, Action, ArgumentParser, Namespace
-from collections.abc import Iterator
+from collections.abc import Iterator, Sequence
 from typing import TYPE_CHECKING, Any
 
-from svnask.asking.verb import Object, Verb, object_of_revision
+from svnask.asking.verb import OF_CHANGE, OF_LOG, Object, Verb, object_of_revision, rows_of_changes
 from svnask.digits import number
 from svnask.errors import Denied, Failed, Usage
 from svnask.history.open_history import OpenHistory
@@ -35,6 +35,8 @@ NO_CONTENTS = "svnask has no contents of files, so --diff is for 'svn log --diff
 
 
 class LogVerb(Verb):
+    columns = ("revision", *OF_LOG)
+
     def arguments(self, parser: ArgumentParser) -> None:
         parser.add_argument("target", metavar="PATH[@PEG]", nargs="?", default="", help="/ if none is given")
         parser.add_argument("paths", metavar="PATH", nargs="*", help="paths below the first one: the log is of these")
@@ -103,12 +105,21 @@ class LogVerb(Verb):
 
     def objects(self, history: OpenHistory, given: Namespace) -> Iterator[Object]:
         if given.xml:
-            raise Usage("--xml prints no objects: it is not taken with --json")
+            raise Usage("--xml prints no objects: it is not taken with --json or --csv")
         wanted = wanted_of(given)
         for entry in log_entries(history, self.items(history, given), wanted, PlainForm(given.quiet)):
             if entry is not None:
                 merged = {"merged_via": list(entry.via), "is_reverse": entry.is_reverse} if given.merges else {}
                 yield {**object_of_revision(history, entry.revision.number), **merged}
+
+    def columns_for(self, given: Namespace) -> Sequence[str]:
+        merged = ("merged_via", "is_reverse") if given.merges else ()
+        return [*self.columns, *merged, *OF_CHANGE * given.verbose]
+
+    def rows(self, history: OpenHistory, given: Namespace) -> Iterator[Object]:
+        """Return a row for each revision, or with `-v` for each changed path."""
+        found = self.objects(history, given)
+        return rows_of_changes(found) if given.verbose else found
 
 
 def lines_of_file(name: str | None) -> list[str]:

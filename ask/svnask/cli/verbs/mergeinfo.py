@@ -2,9 +2,9 @@
 from __future__ import annotations
 
 from argparse import ArgumentParser, Namespace
-from collections.abc import Iterator
+from collections.abc import Iterator, Sequence
 
-from svnask.asking.verb import Object, Verb, object_of_place, object_of_revision
+from svnask.asking.verb import OF_LOG, Object, Verb, object_of_place, object_of_revision
 from svnask.engine.queries import Mergeinfo
 from svnask.errors import Denied, Usage
 from svnask.history.open_history import OpenHistory, one
@@ -17,19 +17,23 @@ from svnask.merges import show_revs as mergeinfo
 from svnask.texts import decoded
 
 # The options that need another one, in the order in which `svn` judges them.
-OF_LOG = (("quiet", "--quiet (-q)"), ("verbose", "--verbose (-v)"), ("incremental", "--incremental"))
-OF_SHOW_REVS = (
+NEED_LOG = (("quiet", "--quiet (-q)"), ("verbose", "--verbose (-v)"), ("incremental", "--incremental"))
+NEED_SHOW_REVS = (
     ("ranges", "--revision (-r) option"),
     ("depth", "Depth specification options"),
     ("log", "--log option"),
 )
 
 
+# The columns of what is drawn about two branches.
+OF_SUMMARY = tuple(f"{of}.{part}" for of in ("source", "target", "ancestor", "merged") for part in ("path", "revision"))
 OF_DEPTH = "also by the mergeinfo of paths below the target"
 OF_RANGES = "only these revisions of the source"
 
 
 class MergeinfoVerb(Verb):
+    columns = ("path", "ranges")
+
     def arguments(self, parser: ArgumentParser) -> None:
         parser.add_argument("source", metavar="PATH[@PEG]", help="a path; the source, if there is a target")
         parser.add_argument("target", metavar="TARGET[@PEG]", nargs="?")
@@ -46,12 +50,12 @@ class MergeinfoVerb(Verb):
 
     def judge(self, given: Namespace) -> None:
         """Refuse options without the one that they belong to."""
-        for name, option in OF_LOG:
+        for name, option in NEED_LOG:
             if getattr(given, name) and not given.log:
                 raise Denied("E205000", f"{option} option valid only with --log option")
         if given.show_revs not in (None, "merged", "eligible"):
             raise Denied("E205000", f"'{given.show_revs}' is not a valid --show-revs value")
-        for name, options in OF_SHOW_REVS:
+        for name, options in NEED_SHOW_REVS:
             if getattr(given, name) and not given.show_revs:
                 raise Denied("E205000", f"{options} valid only with --show-revs option")
         if given.depth not in (None, "empty", "infinity"):
@@ -104,6 +108,11 @@ class MergeinfoVerb(Verb):
         if given.target is not None:
             return diagram.diagram_text(self.summary(history, given))
         return (b"%s:%s\n" % (path, ranges.encode("ascii")) for path, ranges in self.value(history, given).items())
+
+    def columns_for(self, given: Namespace) -> Sequence[str]:
+        if given.show_revs:
+            return ["revision", "partial", *OF_LOG * given.log]
+        return self.columns if given.target is None else OF_SUMMARY
 
     def objects(self, history: OpenHistory, given: Namespace) -> Iterator[Object]:
         self.judge(given)

@@ -30,6 +30,8 @@ class FoundValue(NamedTuple):
 
 
 class PropgetVerb(Verb):
+    columns = ("path", "value")
+
     def arguments(self, parser: ArgumentParser) -> None:
         parser.add_argument("property", metavar=MERGEINFO)
         parser.add_argument(

@@ -12,6 +12,8 @@ from svnask.log import selection as log
 
 
 class SegmentsVerb(Verb):
+    columns = ("first", "last", "path")
+
     def arguments(self, parser: ArgumentParser) -> None:
         parser.add_argument("target", metavar="PATH[@PEG]")
 

@@ -4,7 +4,9 @@ from __future__ import annotations
 from argparse import ArgumentParser, Namespace
 from contextlib import closing
 
+from svnask.asking.running import explained_of
 from svnask.asking.verb import Verb, object_line, write_all
+from svnask.errors import Damaged, Refused
 from svnask.history.open_history import OpenHistory
 from svnask.sources.dump import Dump
 from svnask.sources.entries import read_index
@@ -27,12 +29,20 @@ class UpdateVerb(Verb):
             with OpenHistory(store, None, source) as history:
                 youngest = store.head
                 if isinstance(source, Dump):
-                    history.check()
+                    refuse_with_advice(history, given.dump)
             if given.properties:
                 with_properties(source, bar)
             name = source.root or source.name
             new = youngest - head if youngest >= head else youngest + 1
         return write_all([object_line({"source": name, "youngest": youngest, "new": new})] * given.json)
+
+
+def refuse_with_advice(history: OpenHistory, dump: str) -> None:
+    """Raise the refusal of a dump, with what it means."""
+    try:
+        history.check()
+    except (Refused, Damaged) as error:
+        raise explained_of(error, history, dump) from error
 
 
 VERB = UpdateVerb()

@@ -12,6 +12,8 @@ from svnask.log import selection as log
 
 
 class WhereVerb(Verb):
+    columns = ("path",)
+
     def arguments(self, parser: ArgumentParser) -> None:
         parser.add_argument("target", metavar="PATH[@PEG]")
         parser.add_argument("revision", metavar="REV", help="the other revision")
