@@ -1,8 +1,7 @@
 """Compares the pages with the sources that they speak of, and the examples of the crates with the tests.
 
-A page may name no function, type, definition or file that is gone, and link to no heading that is. `docs/proofs.md`
-names each public function in the section of its crate, and the lines of the example at the head of a `lib.rt` stand one
-after another in a test.
+A page may name no function, type, definition or file that is gone, and link to no heading that is. The lines of the
+example at the head of a `lib.rt` stand one after another in a test.
 """
 from __future__ import annotations
 
@@ -30,8 +29,6 @@ NAME = re.compile(r"[^\W\d_]\w*(?:::[^\W\d]\w*)*\Z")
 MANY_WORDS = re.compile(r"_|::|[a-z][A-Z][a-z]")
 OF_SUBVERSION = re.compile(r"svn_(?:client|ra)_\w+\Z|svn_\w+_t\Z")
 FILE = re.compile(r"[\w./+-]*\w\.(?:rt|antt|edit|py|c|sh)\Z")
-PUBLIC = re.compile(r"^(?:    )?pub fn (\w+)", re.MULTILINE)
-SECTION = re.compile(r"^## (\w+)\n(.*?)(?=^## |\Z)", re.MULTILINE | re.DOTALL)
 EXAMPLE = re.compile(r"^//! ```\n(.*?)^//! ```$", re.MULTILINE | re.DOTALL)
 HEADING = re.compile(r"^#+ (.*)$", re.MULTILINE)
 TO_HEADING = re.compile(r"\]\(([^)\s#:]*)#([^)\s]+)\)")
@@ -85,19 +82,6 @@ def dead_links(page: str) -> Iterator[str]:
             yield f"{target}#{name}"
 
 
-def public_functions(crate: str) -> set[str]:
-    sources = [path for path in files() if re.match(rf"crates/{crate}/src/(?!tests)", path)]
-    return {name for path in sources for name in PUBLIC.findall(content(path))}
-
-
-def functions_of_proofs() -> Iterator[Check]:
-    """The public functions that `docs/proofs.md` does not name in the section of their crate."""
-    sections = dict(SECTION.findall(content("docs/proofs.md")))
-    for crate in sorted(set(re.findall(r"^(\w+):", content("crates.txt").split("#")[0], re.MULTILINE))):
-        named = {word for span in SPAN.findall(sections.get(crate, "")) for word in WORD.findall(span)}
-        yield Check(crate, [], sorted(public_functions(crate) - named))
-
-
 def stripped(text: str, mark: str = "") -> str:
     """The lines of a text without the mark at their front and without indentation."""
     return "\n".join(line[len(mark) :].strip() for line in text.splitlines() if line.strip())
@@ -121,9 +105,6 @@ class Pages(Checks):
 
     def test_links_lead_to_headings(self) -> None:
         self.check_all(Check(page, [], list(dead_links(page))) for page in PAGES + OTHER_PAGES)
-
-    def test_the_page_of_proofs_names_the_public_functions(self) -> None:
-        self.check_all(functions_of_proofs())
 
     def test_the_example_of_each_crate_stands_in_a_test(self) -> None:
         self.check_all(examples_of_crates())

@@ -14,6 +14,7 @@ from dev.dumps import FILE, added, dump_of, first_lines
 from dev.tree import ROOT
 from svnask.asking.verbs import HELP
 from tests.ask import base
+from tests.ask.questions import ALL, OF_DUMP, OTHERS, all_but
 
 DUMP = base.dump_of("branches")
 
@@ -40,14 +41,13 @@ class Command(base.Case):
         self.assertEqual(done.status, 1)
         self.assertIn("dump refused: 5 Truncated at byte 363", done.said)
 
+    def test_no_verb_is_forgotten(self) -> None:
+        self.assertEqual({words[0] for words in ALL} | OTHERS, set(HELP))
+
     def test_lines_of_json_are_objects(self) -> None:
-        for words in base.commands(
-            "log /; branches; segments branches/two; info; record 4; show 9; contains 5; unmerged; changed-tags; "
-            "mergeinfo trunk; where trunk 3; mergeinfo --show-revs eligible trunk branches/two; heirs trunk@3; "
-            "new trunk@3 branches/two; check-mergeinfo; propget svn:mergeinfo -R; mergeinfo trunk branches/two; "
-            "mergeinfo --show-revs eligible --log --depth infinity trunk branches/two; log -g --search copy /; "
-            "log / trunk tags; unmerged --log /**; graph /**; update; --offline info"
-        ):
+        of_text = {"--xml", "--by-time", "--width"}
+        asked = [words for words in all_but({"byte", "serve"}) if of_text.isdisjoint(words)]
+        for words in (*asked, ["--offline", "info"]):
             done = base.run("--json", DUMP, *words)
             self.assertEqual((done.status, done.said), (0, ""), words)
             for line in done.output.splitlines():
@@ -107,11 +107,7 @@ class Command(base.Case):
         (self.folder / "db").mkdir()
         done = base.run(self.folder, "info")
         self.assertEqual((done.status, done.output), (3, b""))
-        self.assertIn("is a directory, but not a repository", done.said)
-        (self.folder / ".svn").mkdir()
-        done = base.run(self.folder, "info")
-        self.assertEqual((done.status, done.output), (3, b""))
-        self.assertIn("is a working copy: give its URL", done.said)
+        self.assertIn("is a directory, but no repository and no working copy", done.said)
 
     def test_what_is_missing_is_named(self) -> None:
         rows: tuple[tuple[list[base.Word], str], ...] = (
@@ -213,10 +209,7 @@ class Command(base.Case):
 
     def test_a_dump_that_is_refused_has_no_answers(self) -> None:
         dump = self.made("faulty", faulty())
-        for words in base.commands(
-            "show 9; changed-tags; unmerged; contains 1; branches; info; heirs trunk; new trunk trunk; check-mergeinfo; "
-            "propget svn:mergeinfo -R; mergeinfo trunk trunk; log -g; log --xml; log / trunk; graph; serve --stop-after 0"
-        ):
+        for words in all_but(OF_DUMP):
             done = base.run(dump, *words)
             self.assertEqual((done.status, done.output), (1, b""), words)
 

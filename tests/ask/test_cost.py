@@ -12,6 +12,7 @@ from svnask.branches import questions
 from svnask.engine import talk as engine
 from svnask.history.lives import Life, moves_of
 from tests.ask import base
+from tests.ask.questions import OF_DUMP, all_but
 
 DUMP = base.dump_of("merges")
 # By how much more time twice the size may take, beside some seconds that everything takes.
@@ -28,19 +29,8 @@ class Runs(base.Case):
 
     def test_a_question_runs_svnhist_once(self) -> None:
         queries = self.made("queries", b"log\ttrunk@3\nlog\ttrunk@2\n")
-        asked = base.commands(
-            "log trunk; log -r 3 branches/one@17; log -c 3,5,9-7 trunk@3; log -r 18 trunk@3; show 3; mergeinfo trunk; "
-            "info; mergeinfo --show-revs merged trunk branches/two; where trunk 3; segments trunk; branches; "
-            "mergeinfo --show-revs eligible -R trunk branches/two; contains 5; unmerged; changed-tags /*/*; graph; "
-            "unmerged /* /*/* --into branches/two; graph /*/* --json; heirs trunk@1; heirs trunk@1 9; new trunk@3 trunk; "
-            "new branches/two trunk -v; check-mergeinfo; check-mergeinfo /**; propget svn:mergeinfo branches/two; "
-            "propget svn:mergeinfo -R / trunk; mergeinfo trunk branches/two; mergeinfo branches/two trunk; "
-            "mergeinfo --show-revs merged --depth infinity --log -v trunk branches/two; branches /**; unmerged --log; "
-            "mergeinfo --show-revs eligible --log --incremental trunk branches/two; log -g trunk; log -g -v --xml /; "
-            "log --xml -v trunk; log --search copy; log -v --search trunk --search-and one; log / trunk branches/two; "
-            "graph --since 5 --by-time --unfolded; graph --width 200 /**"
-        )
-        for words in (*asked, ["ask", str(queries)]):
+        asked = all_but({*OF_DUMP, "serve", "update"})
+        for words in (*asked, *base.commands("log -r 18 trunk@3; log -r 3 branches/one@17"), ["ask", str(queries)]):
             self.assertEqual(self.runs(*words), 1, words)
         for words in base.commands("record 1; byte 1"):
             self.assertEqual(self.runs(*words), 0, words)
@@ -51,7 +41,7 @@ class Runs(base.Case):
         dump = self.made("dump", dump_of([added(b"trunk"), added(b"tags")], *([] for _ in range(2, 200))))
         window = mock.patch.object(questions, "FIRST_WINDOW", 64)
         with window, mock.patch.object(engine.Talk, "ask", autospec=True, side_effect=engine.Talk.ask) as ask:
-            self.assertIn(b"changed in r1\n", base.called(dump, "branches").output)
+            self.assertIn(b"changed in r1\t", base.called(dump, "branches").output)
         self.assertEqual(ask.call_count, 2)
 
 

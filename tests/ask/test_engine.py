@@ -6,16 +6,10 @@ from pathlib import Path
 
 from svnask.engine import talk as engine
 from tests.ask import base
+from tests.ask.questions import OF_DUMP, all_but
 
 DUMP = base.dump_of("branches")
-QUESTIONS = base.commands(
-    "log trunk; segments branches/two; where trunk 3; mergeinfo trunk; "
-    "mergeinfo --show-revs eligible trunk branches/two; branches; contains 2; unmerged; changed-tags /branches/*; "
-    "graph; info; show 3; heirs trunk@3; new trunk@3 branches/two; check-mergeinfo; propget svn:mergeinfo -R; "
-    "mergeinfo trunk branches/two; mergeinfo --show-revs eligible --log --depth infinity trunk branches/two; "
-    "log -g trunk; log --xml -v trunk; log --search copy trunk; log / trunk tags; unmerged --log; branches /**; "
-    "serve --stop-after 0; graph --since 5 --by-time --unfolded"
-)
+QUESTIONS = all_but(OF_DUMP)
 
 
 class Engines(base.Case):
