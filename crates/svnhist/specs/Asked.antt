@@ -42,19 +42,20 @@ IsErrorOnInput old new error =
 
 -- ---- by the arguments
 
--- the report that is asked for
-abbrev pub IsReportAsked : {D : Type 0} → (List ℕ → D → Type 0) → (D → PullState) → Option (List (List ℕ)) → PullState → PullState → List ℕ → Type 0
-IsReportAsked opens state None old new report = ⊥
-IsReportAsked opens state (Some []) old new report = IsReportOnInput old new report
-IsReportAsked opens state (Some (text ∷ texts)) old new report =
-    (asked : ArgumentsValue) × IsArguments (text ∷ texts) asked × IsReportOnFiles opens state asked report
+module _ {F : Type 0} (opens refuses : F → List ℕ → F → Type 0) (state : F → PullState) (files after : F) (old new : PullState) where
+  -- the report that is asked for
+  abbrev pub IsReportAsked : Option (List (List ℕ)) → List ℕ → Type 0
+  IsReportAsked None report = ⊥
+  IsReportAsked (Some []) report = IsReportOnInput old new report
+  IsReportAsked (Some (text ∷ texts)) report =
+      (asked : ArgumentsValue) × IsArguments (text ∷ texts) asked × IsReportOnFiles opens state files after asked report
 
--- why there is none
-abbrev pub IsErrorAsked : {D : Type 0} → (List ℕ → D → Type 0) → (List ℕ → Type 0) → (D → PullState) → Option (List (List ℕ)) → PullState → PullState → RunError → Type 0
-IsErrorAsked opens refuses state None old new error = error ≡ Memory
-IsErrorAsked opens refuses state (Some []) old new error = IsErrorOnInput old new error
-IsErrorAsked opens refuses state (Some (text ∷ texts)) old new error =
-    (asked : ArgumentsValue) × IsArguments (text ∷ texts) asked × IsErrorOnFiles opens refuses state asked error
+  -- why there is none
+  abbrev pub IsErrorAsked : Option (List (List ℕ)) → RunError → Type 0
+  IsErrorAsked None error = error ≡ Memory
+  IsErrorAsked (Some []) error = IsErrorOnInput old new error
+  IsErrorAsked (Some (text ∷ texts)) error =
+      (asked : ArgumentsValue) × IsArguments (text ∷ texts) asked × IsErrorOnFiles opens refuses state files after asked error
 
 -- nothing is asked for
 abbrev pub IsMisused : Option (List (List ℕ)) → PullState → PullState → Type 0

@@ -1,4 +1,4 @@
--- The report on two files, or why there is none. The queries and the dump have a path each, which opens an input.
+-- The report on two files, or why there is none. The queries are opened and read before the dump is opened.
 use Rattle.std.specs.Prelude.{◌≡◌, ◌⊎◌, ℕ, List}
 use Rattle.devices.specs.Device.{PullState}
 use Rattle.devices.specs.declared.source.Source.TheVariants.{Dump as DumpFile, Queries}
@@ -12,60 +12,61 @@ use Rattle.svnhist.specs.Arguments.{ArgumentsValue}
 abbrev pub IsOutOfMemory : PullState → PullState → RunError → Type 0
 IsOutOfMemory old new error = (error ≡ Memory) × (new.failures ≡ old.failures)
 
-module _ {D : Type 0} (opens : List ℕ → D → Type 0) (state : D → PullState) where
-  -- all bytes of an input that a path opens
+-- `files` are before what is said, and `after` is what became of them
+module _ {F : Type 0} (opens : F → List ℕ → F → Type 0) (state : F → PullState) (files after : F) where
+  -- a path was opened, and all bytes there were read
   pub record IsFileRead (path bytes : List ℕ) : Type 0 where
-    pub input : D
-    pub after : D
-    pub opened : opens path input
-    pub read : IsReadWhole (state input) (state after) bytes
+    pub opened : F
+    pub opening : opens files path opened
+    pub read : IsReadWhole (state opened) (state after) bytes
 
-  -- the queries that a path opens were not read to their end, or memory ran out
+  -- a path of queries was opened, and they were not read to their end, or memory ran out
   pub record IsUnreadQueries (path : List ℕ) (error : RunError) : Type 0 where
-    pub input : D
-    pub after : D
-    pub opened : opens path input
-    pub why : IsOutOfMemory (state input) (state after) error ⊎ ((error ≡ Read Queries) × IsUnread (state input) (state after))
+    pub opened : F
+    pub opening : opens files path opened
+    pub why : IsOutOfMemory (state opened) (state after) error ⊎ ((error ≡ Read Queries) × IsUnread (state opened) (state after))
 
-  -- the report on the dump that a path opens
+  -- a path was opened, and this is the report on the dump there
   pub record IsReportOnDump (path queries report : List ℕ) : Type 0 where
-    pub input : D
-    pub after : D
-    pub opened : opens path input
-    pub right : IsReportFrom (state input) (state after) queries report
+    pub opened : F
+    pub opening : opens files path opened
+    pub right : IsReportFrom (state opened) (state after) queries report
 
   -- why there is none on it
   pub record IsRefusedDump (path queries : List ℕ) (error : RunError) : Type 0 where
-    pub input : D
-    pub after : D
-    pub opened : opens path input
-    pub why : IsRunErrorFrom (state input) (state after) queries error
+    pub opened : F
+    pub opening : opens files path opened
+    pub why : IsRunErrorFrom (state opened) (state after) queries error
     -- want of memory is no failed read
-    pub memory : error ≡ Memory → (state after).failures ≡ (state input).failures
+    pub memory : error ≡ Memory → (state after).failures ≡ (state opened).failures
 
+module _ {F : Type 0} (opens : F → List ℕ → F → Type 0) (state : F → PullState) (files after : F) where
   -- all queries of the one path were read, and this is the report on the dump of the other
   pub record IsReportOnFiles (asked : ArgumentsValue) (report : List ℕ) : Type 0 where
     pub queries : List ℕ
-    pub read : IsFileRead asked.queries queries
-    pub right : IsReportOnDump asked.dump queries report
+    pub between : F
+    pub read : IsFileRead opens state files between asked.queries queries
+    pub right : IsReportOnDump opens state between after asked.dump queries report
 
--- ---- where there is no report, with the paths that may open nothing
+-- ---- where there is no report, with the paths that can't be opened
 
-module _ {D : Type 0} (opens : List ℕ → D → Type 0) (refuses : List ℕ → Type 0) (state : D → PullState) where
+module _ {F : Type 0} (opens refuses : F → List ℕ → F → Type 0) (state : F → PullState) (files after : F) where
   -- why the queries of a path are not there
   abbrev pub IsErrorOnQueries : List ℕ → RunError → Type 0
-  IsErrorOnQueries path error = ((error ≡ Read Queries) × refuses path) ⊎ IsUnreadQueries opens state path error
+  IsErrorOnQueries path error = ((error ≡ Read Queries) × refuses files path after) ⊎ IsUnreadQueries opens state files after path error
 
   -- why there is no report on the dump of a path
   abbrev pub IsErrorOnDump : List ℕ → List ℕ → RunError → Type 0
   IsErrorOnDump path queries error =
-      ((error ≡ Read DumpFile) × refuses path) ⊎ IsRefusedDump opens state path queries error
+      ((error ≡ Read DumpFile) × refuses files path after) ⊎ IsRefusedDump opens state files after path queries error
 
+module _ {F : Type 0} (opens refuses : F → List ℕ → F → Type 0) (state : F → PullState) (files after : F) where
   -- all queries were read, and there is no report on the dump
   pub record IsErrorAfterQueries (asked : ArgumentsValue) (error : RunError) : Type 0 where
     pub queries : List ℕ
-    pub read : IsFileRead opens state asked.queries queries
-    pub why : IsErrorOnDump asked.dump queries error
+    pub between : F
+    pub read : IsFileRead opens state files between asked.queries queries
+    pub why : IsErrorOnDump opens refuses state between after asked.dump queries error
 
   abbrev pub IsErrorOnFiles : ArgumentsValue → RunError → Type 0
-  IsErrorOnFiles asked error = IsErrorOnQueries asked.queries error ⊎ IsErrorAfterQueries asked error
+  IsErrorOnFiles asked error = IsErrorOnQueries opens refuses state files after asked.queries error ⊎ IsErrorAfterQueries asked error

@@ -21,7 +21,7 @@ fn main(rt: HostRuntime) -> ExitCode {
     program::run(
         &rt,
         rt.alloc(),
-        &SystemFiles(&rt),
+        &mut SystemFiles::new(&rt),
         arguments_of(&rt),
         &mut Device::new(rt.stdin()),
         &mut Device::new(rt.stdout()),

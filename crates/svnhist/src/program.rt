@@ -31,35 +31,36 @@ const UNSENT: &[u8] = b"svnhist: cannot write the report\n";
 /// Without arguments `input` is a bundle. Where there is no report, one line for `errors` says why.
 pub(crate) fn run<
     R: RandomSource + Threads + Wait + Sync,
-    F: Open<D>,
-    D: Pull + Drop,
+    F: Open + Pull,
     I: Pull,
     O: Push,
     E: Push,
 >(
     rt: &R,
     alloc: Global,
-    files: &F,
+    files: &mut F,
     arguments: io::Result<Vec<String>>,
     input: &mut I,
     output: &mut O,
     errors: &mut E,
 ) -> ExitCode
     ensures done { exit_status result ≡ 0 → IsDone
-        (IsReportAsked (F.opens files.now) D.state (texts_of arguments) (I.state input.old) (I.state input.new))
+        (IsReportAsked F.opens F.refuses F.state files.old files.new
+        (I.state input.old) (I.state input.new) (texts_of arguments))
         (O.state output.old) (O.state output.new) }
     ensures misused { exit_status result ≡ 2 →
         IsMisused (texts_of arguments) (I.state input.old) (I.state input.new) }
     ensures usage_line { exit_status result ≡ 2 →
         PrintsLine (E.state errors.old) (E.state errors.new) usage_line }
     ensures cut { output.new ≢ output.old → exit_status result ≢ 0 → IsCut
-        (IsReportAsked (F.opens files.now) D.state (texts_of arguments) (I.state input.old) (I.state input.new))
+        (IsReportAsked F.opens F.refuses F.state files.old files.new
+        (I.state input.old) (I.state input.new) (texts_of arguments))
         (O.state output.old) (O.state output.new) }
     ensures cut_line { output.new ≢ output.old → exit_status result ≢ 0 →
         PrintsLine (E.state errors.old) (E.state errors.new) unsent_line }
     ensures refused { output.new ≡ output.old → exit_status result ≢ 2 → IsRefused
-        (IsErrorAsked (F.opens files.now) (F.refuses files.now) D.state (texts_of arguments)
-        (I.state input.old) (I.state input.new))
+        (IsErrorAsked F.opens F.refuses F.state files.old files.new
+        (I.state input.old) (I.state input.new) (texts_of arguments))
         (exit_status result) (E.state errors.old) (E.state errors.new) }
     ensures known { exit_status result ≤ 4 }
     ensures silent { exit_status result ≡ 0 → errors.new ≡ errors.old }
@@ -107,19 +108,19 @@ fn deliver<O: Push, E: Push>(output: &mut O, errors: &mut E, report: &[u8]) -> E
 }
 
 /// The report that the arguments ask for, or `None` where they, or the input as a bundle, ask for nothing.
-fn answer<R: RandomSource + Threads + Wait + Sync, F: Open<D>, D: Pull + Drop, I: Pull>(
+fn answer<R: RandomSource + Threads + Wait + Sync, F: Open + Pull, I: Pull>(
     rt: &R,
     alloc: Global,
-    files: &F,
+    files: &mut F,
     arguments: io::Result<Vec<String>>,
     input: &mut I,
 ) -> Result<Option<Vec<u8>>, RunError>
     ensures ok { IfOk result (λ found. MatchOption found
         (IsMisused (texts_of arguments) (I.state input.old) (I.state input.new))
-        (λ report. IsReportAsked (F.opens files.now) D.state (texts_of arguments) (I.state input.old)
-        (I.state input.new) report.items)) }
-    ensures error { IfErr result (IsErrorAsked (F.opens files.now) (F.refuses files.now) D.state (texts_of arguments)
-        (I.state input.old) (I.state input.new)) }
+        (λ report. IsReportAsked F.opens F.refuses F.state files.old files.new
+        (I.state input.old) (I.state input.new) (texts_of arguments) report.items)) }
+    ensures error { IfErr result (IsErrorAsked F.opens F.refuses F.state files.old files.new
+        (I.state input.old) (I.state input.new) (texts_of arguments)) }
     ensures unread { (texts_of arguments ≡ Some []) ⊎ (input.new ≡ input.old) }
     ensures fails_once { (I.state input.new).failures ≤ (I.state input.old).failures + 1 }
     ensures no_texts { IfErr arguments (λ e. error_kind e ≢ ErrorKind.OutOfMemory → IsOkAnd result IsNone) }

@@ -125,7 +125,7 @@ fn answers<R: Files + RandomSource + Threads + Wait + Sync>(
         block: 0,
         workers: 1,
     };
-    answer_files(rt, alloc, &SystemFiles(rt), &asked)
+    answer_files(rt, alloc, &mut SystemFiles::new(rt), &asked)
 }
 
 // Whether the report on two files is right, and an error names the one that is missing.

@@ -8,29 +8,27 @@ use Rattle.live_history.specs.declared.talk_error.TalkError.{TalkError}
 use Rattle.live_history.specs.declared.talk_error.TalkError.TheVariants.{Run}
 use Rattle.svnhist_live.specs.Arguments.{ArgumentsValue, IsArguments}
 
-module _ {D : Type 0} (opens : List ℕ → D → Type 0) (refuses : List ℕ → Type 0) (state : D → PullState) (input after : PullState) (output sent : PushState) where
+module _ {F : Type 0} (opens refuses : F → List ℕ → F → Type 0) (state : F → PullState) (files read : F) (input after : PullState) (output sent : PushState) where
   -- the talk about the dump that a path opens
   pub record IsTalkOn (path : List ℕ) : Type 0 where
-    pub dump : D
-    pub read : D
-    pub opened : opens path dump
-    pub right : IsWholeTalk (state dump) (state read) input after output sent
+    pub opened : F
+    pub opening : opens files path opened
+    pub right : IsWholeTalk (state opened) (state read) input after output sent
 
   -- why it ended early
   pub record IsErrorOnDump (path : List ℕ) (error : TalkError) : Type 0 where
-    pub dump : D
-    pub read : D
-    pub opened : opens path dump
-    pub why : IsTalkError (state dump) (state read) input after output sent error
+    pub opened : F
+    pub opening : opens files path opened
+    pub why : IsTalkError (state opened) (state read) input after output sent error
     -- want of memory is no failed read, and no input that ended
-    pub memory_dump : error ≡ Run Memory → (state read).failures ≡ (state dump).failures
+    pub memory_dump : error ≡ Run Memory → (state read).failures ≡ (state opened).failures
     pub memory : error ≡ Run Memory → after.failures ≡ input.failures
     pub unended : error ≡ Run Memory → after.ends ≡ input.ends
 
-  -- the path opens nothing
+  -- the path can't be opened
   pub record IsUnopened (path : List ℕ) (error : TalkError) : Type 0 where
     pub is : error ≡ Run (Read source.Dump)
-    pub refused : refuses path
+    pub refused : refuses files path read
     pub unread : after ≡ input
     pub unsent : sent ≡ output
 

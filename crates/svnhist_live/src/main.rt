@@ -12,7 +12,7 @@ fn main(rt: HostRuntime) -> ExitCode {
     program::run(
         &rt,
         rt.alloc(),
-        &SystemFiles(&rt),
+        &mut SystemFiles::new(&rt),
         arguments_of(&rt),
         &mut Connection::new(Device::new(rt.stdin()), Device::new(rt.stdout())),
         &mut Device::new(rt.stderr()),

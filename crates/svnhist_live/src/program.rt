@@ -26,26 +26,25 @@ const USAGE: &[u8] = b"svnhist: usage: svnhist-live DUMP WORKERS\n";
 /// there is no whole talk, one line for `errors` says why.
 pub(crate) fn run<
     R: RandomSource + Threads + Wait + Sync,
-    F: Open<D>,
-    D: Pull + Drop,
+    F: Open + Pull,
     C: Client,
     E: Push,
 >(
     rt: &R,
     alloc: Global,
-    files: &F,
+    files: &mut F,
     arguments: io::Result<Vec<String>>,
     client: &mut C,
     errors: &mut E,
 ) -> ExitCode
     requires new { C.first client.old ≡ record { input = C.input client.old; output = C.output client.old } }
-    ensures done { exit_status result ≡ 0 → IsTalkAsked (F.opens files.now) (F.refuses files.now) D.state
+    ensures done { exit_status result ≡ 0 → IsTalkAsked F.opens F.refuses F.state files.old files.new
         (C.input client.old) (C.input client.new) (C.output client.old) (C.output client.new) (texts_of arguments) }
     ensures misused { exit_status result ≡ 2 → IsMisused (texts_of arguments) }
     ensures usage_line { exit_status result ≡ 2 → PrintsLine (E.state errors.old) (E.state errors.new) usage_line }
     ensures untouched { exit_status result ≡ 2 → client.new ≡ client.old }
     ensures ended { exit_status result ≢ 0 → exit_status result ≢ 2 → IsEnded
-        (IsErrorAsked (F.opens files.now) (F.refuses files.now) D.state
+        (IsErrorAsked F.opens F.refuses F.state files.old files.new
         (C.input client.old) (C.input client.new) (C.output client.old) (C.output client.new) (texts_of arguments))
         (λ e. IsTalkErrorLine (exit_status result) e (E.state errors.old) (E.state errors.new)) }
     ensures known { exit_status result ≤ 4 }
@@ -65,19 +64,19 @@ pub(crate) fn run<
 }
 
 /// The talk that the arguments ask for. `false` where they ask for nothing.
-fn talk_asked<R: RandomSource + Threads + Wait + Sync, F: Open<D>, D: Pull + Drop, C: Client>(
+fn talk_asked<R: RandomSource + Threads + Wait + Sync, F: Open + Pull, C: Client>(
     rt: &R,
     alloc: Global,
-    files: &F,
+    files: &mut F,
     arguments: io::Result<Vec<String>>,
     client: &mut C,
 ) -> Result<bool, TalkError>
     requires new { C.first client.old ≡ record { input = C.input client.old; output = C.output client.old } }
-    ensures done { IfOk result (λ asked. IsTrue asked → IsTalkAsked (F.opens files.now) (F.refuses files.now) D.state
+    ensures done { IfOk result (λ asked. IsTrue asked → IsTalkAsked F.opens F.refuses F.state files.old files.new
         (C.input client.old) (C.input client.new) (C.output client.old) (C.output client.new) (texts_of arguments)) }
     ensures misused { IfOk result (λ asked. IsFalse asked → IsMisused (texts_of arguments)) }
     ensures untouched { IfOk result (λ asked. IsFalse asked → client.new ≡ client.old) }
-    ensures error { IfErr result (IsErrorAsked (F.opens files.now) (F.refuses files.now) D.state
+    ensures error { IfErr result (IsErrorAsked F.opens F.refuses F.state files.old files.new
         (C.input client.old) (C.input client.new) (C.output client.old) (C.output client.new) (texts_of arguments)) }
     ensures output_once { (C.output client.new).failures ≤ (C.output client.old).failures + 1 }
     ensures no_texts { IfErr arguments (λ e. error_kind e ≢ ErrorKind.OutOfMemory → IsOkAnd result IsFalse) }
@@ -98,24 +97,24 @@ fn talk_asked<R: RandomSource + Threads + Wait + Sync, F: Open<D>, D: Pull + Dro
 }
 
 /// The talk about a file.
-fn talk_about<R: RandomSource + Threads + Wait + Sync, F: Open<D>, D: Pull + Drop, C: Client>(
+fn talk_about<R: RandomSource + Threads + Wait + Sync, F: Open + Pull, C: Client>(
     rt: &R,
     alloc: Global,
-    files: &F,
+    files: &mut F,
     asked: &Arguments<'_>,
     client: &mut C,
 ) -> Result<(), TalkError>
     requires some_worker { 0 < asked.now.workers }
     requires few_workers { asked.now.workers ≤ most_workers }
     requires new { C.first client.old ≡ record { input = C.input client.old; output = C.output client.old } }
-    ensures done { OnOk result (IsTalkOn (F.opens files.now) (F.refuses files.now) D.state (C.input client.old)
+    ensures done { OnOk result (IsTalkOn F.opens F.refuses F.state files.old files.new (C.input client.old)
         (C.input client.new) (C.output client.old) (C.output client.new) asked.now.dump.now) }
-    ensures error { IfErr result (IsErrorOn (F.opens files.now) (F.refuses files.now) D.state (C.input client.old)
+    ensures error { IfErr result (IsErrorOn F.opens F.refuses F.state files.old files.new (C.input client.old)
         (C.input client.new) (C.output client.old) (C.output client.new) asked.now.dump.now) }
     ensures output_once { (C.output client.new).failures ≤ (C.output client.old).failures + 1 }
 {
-    match files.open(asked.dump) {
-        Some(mut dump) => talk(rt, alloc, &mut dump, asked.workers, client),
-        None => Err(TalkError::Run(RunError::Read(Source::Dump))),
+    if !files.open(asked.dump) {
+        return Err(TalkError::Run(RunError::Read(Source::Dump)));
     }
+    talk(rt, alloc, files, asked.workers, client)
 }
