@@ -1,0 +1,1 @@
+"""The benchmarks. `bench/run --list` prints their parts. They are not released."""

@@ -1,0 +1,95 @@
+"""Commands that are measured in turns, so that a slow moment of the machine affects all of them."""
+from __future__ import annotations
+
+import os
+import sys
+from collections.abc import Iterable, Mapping
+from dataclasses import dataclass
+from operator import attrgetter
+from pathlib import Path
+from typing import Callable, TypeVar
+
+from dev.running import Failed, Measured, Words, measure
+from dev.tree import ROOT, SVNASK
+
+# A quick run has input of so many times less size.
+QUICK = 10
+# The exit status of the program for a dump that it refuses.
+REFUSED = 1
+NOTHING, PIPE = Path(os.devnull), Path("/dev/stdin")
+PIECE = 1 << 20
+Key = TypeVar("Key")
+Run = Callable[[], Measured]
+WALL, PROCESSOR = attrgetter("wall"), attrgetter("processor")
+
+
+@dataclass(frozen=True)
+class Setup:
+    """The programs, a folder for files, and how often a command is measured."""
+
+    program: Path
+    live: Path
+    folder: Path
+    times: int
+    is_quick: bool
+
+    def scaled(self, size: int) -> int:
+        return size // QUICK if self.is_quick else size
+
+    def words(self, dump: Path, queries: Path = NOTHING, block: int = 0, workers: int = 1) -> Words:
+        """Return the command of svnhist about a dump."""
+        return [self.program, dump, queries, str(block), str(workers)]
+
+    def written(self, name: str, lines: Iterable[str]) -> Path:
+        path = self.folder / name
+        path.write_text("".join(lines), encoding="utf-8")
+        return path
+
+    @property
+    def cache(self) -> Path:
+        return self.folder / "cache"
+
+    def python(self, *words: str | Path) -> Words:
+        """Return a script in Python with the programs and a cache of the benchmark, compiled once as when installed."""
+        python = [f"PYTHONPYCACHEPREFIX={self.folder / 'compiled'}", f"PYTHONPATH={ROOT / 'ask'}"]
+        own = [f"SVNHIST={self.program}", f"SVNHIST_LIVE={self.live}", f"XDG_CACHE_HOME={self.cache}"]
+        return ["/usr/bin/env", "-u", "PYTHONDONTWRITEBYTECODE", *python, *own, sys.executable, *words]
+
+    def svnask(self, *words: str | Path) -> Words:
+        return self.python(SVNASK, *words)
+
+
+def command(words: Words, *, feeder: Words | None = None, status: int = 0, is_kept: bool = False) -> Run:
+    """Return a run of a command that must end with this status. Output that is not kept goes to /dev/null."""
+
+    def run() -> Measured:
+        taken = measure(words, feeder, is_kept=is_kept)
+        if taken.outcome.status != status:
+            raise Failed(f"{' '.join(map(str, words))} ended with {taken.outcome.shown()}")
+        return taken
+
+    return run
+
+
+def best_in_turns(runs: Mapping[Key, Run], times: int, cost: Callable[[Measured], float] = WALL) -> dict[Key, Measured]:
+    """Return the run of each kind that cost least, of so many in turns."""
+    best: dict[Key, Measured] = {}
+    for _ in range(times):
+        for key, run in runs.items():
+            taken = run()
+            if key not in best or cost(taken) < cost(best[key]):
+                best[key] = taken
+    return best
+
+
+def walls(runs: Mapping[Key, Run], times: int) -> dict[Key, float]:
+    """Return the seconds of the best run of each kind."""
+    return {key: taken.wall for key, taken in best_in_turns(runs, times).items()}
+
+
+def load_into_cache(path: Path) -> Path:
+    """Read a file, so that later readers need no disk."""
+    with open(path, "rb") as file:
+        while file.read(PIECE):
+            pass
+    return path

@@ -1,0 +1,86 @@
+"""svnask: its first question about a dump, a later one, and many answers, beside `grep` and the program itself.
+
+The history has release branches and much mergeinfo. The first question reads it and keeps what later ones need. Times
+are processor seconds, of the commands and of what they start. The program answers with as many workers as svnask has.
+"""
+from __future__ import annotations
+
+import os
+import shutil
+import subprocess
+from dataclasses import replace
+
+from bench.histories import RELEASES, Generated, Peg, generated
+from bench.measure import PROCESSOR, Run, Setup, best_in_turns, command
+from bench.questions import line
+from bench.tables import Cell, Limited, Row, Table, Tables
+from dev.running import Failed, Measured
+from dev.tree import EXAMPLES, ROOT
+
+MIX, REVISIONS, LINES = replace(RELEASES, records=20, body=(0, 200), releases=6, width=100), 20000, 10000000
+MOST_OF_GREP, MOST_OF_PROGRAM, MOST_OF_LINES, MOST_MEGABYTES = 20.0, 2.0, 4.0, 100.0
+FIRST, LATER, MODULE = "svnask, the first question", "svnask, the same as a later question", "the module, many logs"
+GREP, ALONE, MANY = "`grep -c ^Node-path`", "svnhist, the log of the trunk", "svnhist, many logs"
+
+
+class Commands:
+    """The commands about a dump, and about the same without texts for the program."""
+
+    def __init__(self, setup: Setup, history: Generated) -> None:
+        self.setup, self.dump = setup, history.dump
+        self.stripped = setup.folder / "stripped"
+        with open(self.dump, "rb") as dump, open(self.stripped, "wb") as stripped:
+            subprocess.run([EXAMPLES / "strip-texts"], stdin=dump, stdout=stripped, check=True)
+        self.log = line("log", Peg("trunk", history.revisions))
+
+    def first(self) -> Measured:
+        """Ask the first question, with an empty cache. Later questions are of another kind."""
+        shutil.rmtree(self.setup.cache, ignore_errors=True)
+        return command(self.setup.svnask(self.dump, "record", "1"))()
+
+    def peak(self) -> float:
+        shutil.rmtree(self.setup.cache, ignore_errors=True)
+        words = self.setup.python(ROOT / "bench" / "own_peak.py", self.dump, "record", "1")
+        return int(command(words)().outcome.errors.split()[-1]) * 1024 / 1e6
+
+    def alone(self, count: int) -> Run:
+        """Return a run of the program with so many logs of the trunk."""
+        queries = self.setup.written(f"logs-{count}", [self.log] * count)
+        return command(self.setup.words(self.stripped, queries, workers=min(len(os.sched_getaffinity(0)), 64)))
+
+    def module(self, count: int, lines: int) -> Run:
+        """Return a run of the module with as many, which must have so many lines each."""
+        words = self.setup.python(ROOT / "bench" / "answer_reader.py", self.dump, "trunk", str(count))
+
+        def run() -> Measured:
+            taken = command(words, is_kept=True)()
+            if int(taken.outcome.output) != count * lines:
+                raise Failed("the module did not read all lines")
+            return taken
+
+        return run
+
+
+def measured(setup: Setup) -> Tables:
+    """svnask: its first question about a dump, a later one, and many answers, beside `grep` and the program itself."""
+    history = generated(setup.folder / "asked", MIX, setup.scaled(REVISIONS))
+    asked = Commands(setup, history)
+    later = setup.svnask(history.dump, "log", "-q", "trunk")
+    grep = command(["grep", "-c", "-a", "^Node-path", history.dump], is_kept=True)
+    peak = asked.peak()
+    lines = command(later, is_kept=True)().outcome.output.count(b"\nr")
+    count = setup.scaled(LINES) // lines
+    pairs: list[dict[str, Run]] = [
+        {GREP: grep, FIRST: asked.first},
+        {ALONE: asked.alone(1), LATER: command(later)},
+        {MANY: asked.alone(count), MODULE: asked.module(count, lines)},
+    ]
+    found = [best_in_turns(each, setup.times, PROCESSOR) for each in pairs]
+    rows: list[Row] = []
+    for taken, most in zip(found, (MOST_OF_GREP, MOST_OF_PROGRAM, MOST_OF_LINES)):
+        (name, beside), (ours, our) = taken.items()
+        memory: Cell = Limited(peak, MOST_MEGABYTES) if ours == FIRST else None
+        rows.append([name, beside.processor, None, None])
+        rows.append([ours, our.processor, Limited(our.processor / beside.processor, most), memory])
+    heading = "what runs | processor s:.3f | relative to the one above:.2f | peak MB of Python:.0f"
+    yield Table("svnask-reading", heading, rows)
