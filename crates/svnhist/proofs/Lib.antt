@@ -1,3 +1,2 @@
 mod Bundles
-mod Errors
 mod Misuses
