@@ -151,7 +151,7 @@ def words_of(chance: random.Random, folder: Path) -> list[str]:
                    "--incremental")],
             ["propget", "svn:mergeinfo", *pair[: chance.choice((0, 1, 2))], *some("-R", "-v", "--strict")],
             ["check-mergeinfo", *patterns], ["heirs", target(), *some(revision, "--log")],
-            ["new", *pair, *some("-v", "--log")], ["unmerged", *patterns, "--log", *some("--into=" + target())],
+            ["new", *pair, *some("-v", "--log", "--all", "--full"), *some("--by-author")], ["new", *pair, "--markdown", "--issue=" + target()], ["unmerged", *patterns, "--log", *some("--into=" + target())],
             ["where", target(), revision], ["segments", target()],
             ["branches", *patterns, *some("--ahead-behind", "--ahead-behind=" + target(), "--log")],
             ["contains", revision, *patterns, *some(revision, "-r" + bounds, "--search=" + target(), "--in=" + target(), "--log")], ["info"], ["unmerged", *patterns, *some("--into=" + target())],

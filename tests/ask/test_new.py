@@ -5,12 +5,13 @@ import itertools
 import json
 from itertools import repeat
 
+from dev.dumps import FILE, Dump, Revision, added, changed
 from model import definitions as plain
 from svnask.branches.gained import gained
 from svnask.errors import Denied
 from svnask.history.targets import Target
 from tests.ask import base
-from tests.ask.drawn_repositories import drawn
+from tests.ask.drawn_repositories import drawn, synchronized
 
 Sets = tuple[set[int], set[int], set[int]]
 
@@ -81,19 +82,77 @@ class Plain:
         return own, merged, partial
 
     def is_copy_alone(self, rev: int) -> bool:
-        """Return whether a revision copies something to each path that it changes, or adds it above a copy."""
+        """Return whether a revision only copies, adds folders above copies, and deletes what it copies."""
         actions = {record.path: record.action for record in self.records[rev]}
-        copies = {record.path for record in self.records[rev] if record.source}
+        copies = {record.path: record.source.path for record in self.records[rev] if record.source}
         return bool(copies) and all(
-            path in copies or action == b"add" and any(plain.is_below(copy, path) for copy in copies)
+            path in copies
+            or (action == b"add" and any(plain.is_below(copy, path) for copy in copies))
+            or (action == b"delete" and path in copies.values())
             for path, action in actions.items()
+        )
+
+    def changed(self, rev: int) -> dict[plain.Path, bool]:
+        """Return the paths that a revision changes, and whether each was only changed, and not made or deleted."""
+        found: dict[plain.Path, bool] = {}
+        for record in self.records[rev]:
+            found[record.path] = found.get(record.path, True) and record.action == b"change"
+        return found
+
+    def text(self, path: plain.Path, rev: int) -> bytes | None:
+        entry = self.history.trees[rev].get(path)
+        return None if entry is None else entry.mergeinfo
+
+    def targets(self, rev: int) -> list[plain.Path]:
+        """Return the paths that have other mergeinfo by a revision than where they were before."""
+        found = []
+        for path, is_change in self.changed(rev).items():
+            origin = self.history.trees[rev][path].origin if is_change else None
+            if origin is not None and self.text(path, rev) != self.text(*origin):
+                found.append(path)
+        return found
+
+    def brought(self, target: plain.Path, rev: int) -> tuple[set[plain.Path], set[plain.Path]]:
+        """Return the paths below a target that came with what was merged: those that were changed, and others."""
+        before, now = (
+            {
+                (source, each)
+                for source, runs in plain.value_of(self.text(target, at) or b"").items()
+                for run in runs
+                for each in range(run.low, min(run.high, len(self.history.trees) - 1) + 1)
+            }
+            for at in (rev - 1, rev)
+        )
+        changed: set[plain.Path] = set()
+        moved: set[plain.Path] = set()
+        for source, each in now - before:
+            if source in self.history.trees[each] and plain.is_operative(self.history, source, each):
+                for path, is_change in self.changed(each).items():
+                    if plain.is_below(path, source):
+                        (changed if is_change else moved).add(target + path[len(source) :])
+        return changed, moved
+
+    def is_merge_alone(self, rev: int) -> bool:
+        """Return whether a revision changes mergeinfo, and else only what came with what it merged."""
+        targets = self.targets(rev)
+        changed: set[plain.Path] = set()
+        moved: set[plain.Path] = set()
+        for each in targets:
+            try:
+                more_changed, more_moved = self.brought(each, rev)
+            except plain.Malformed:
+                continue
+            changed, moved = changed | more_changed, moved | more_moved
+        left = [path for path in self.changed(rev) if path in self.texts[rev] or path not in targets]
+        return bool(targets) and all(
+            path in changed or any(plain.is_below(path, other) for other in moved) for path in left
         )
 
     def new(self, before: plain.Place, after: plain.Place) -> set[int]:
         own, merged, partial = self.held(before)
         own_after, merged_after, partial_after = self.held(after)
         found = (own_after | merged_after | (partial_after - partial)) - own - merged
-        return {rev for rev in found if rev and not self.is_copy_alone(rev)}
+        return {rev for rev in found if rev and not self.is_copy_alone(rev) and not self.is_merge_alone(rev)}
 
 
 def target(place: plain.Place) -> Target:
@@ -131,9 +190,57 @@ class New(base.Case):
         self.assertGreater(sum(compared for compared, _ in found), 200)
         self.assertGreater(sum(gaining for _, gaining in found), 50)
 
+    def test_synchronized_features(self) -> None:
+        for seed in range(4):
+            self.check(f"features{seed}", synchronized(seed))
+
+
+class Printed(base.Case):
+    def asked(self, *words: str) -> list[str]:
+        done = base.called(base.dump_of("merges"), "new", "branches/two", "trunk", *words)
+        self.assertEqual((done.status, done.said), (0, ""))
+        return done.output.decode().splitlines()
+
     def test_lines_and_objects(self) -> None:
-        dump = base.dump_of("merges")
-        done = base.called(dump, "new", "branches/two", "trunk")
-        self.assertEqual(done.output.splitlines()[0], b"r14\tcarol\tChange inside a directory")
-        lines = base.called("--json", dump, "new", "branches/two", "trunk").output.splitlines()
-        self.assertEqual([json.loads(line)["revision"] for line in lines], [14, 12, 11, 6])
+        self.assertEqual(self.asked()[0], "r14\tcarol\tChange inside a directory")
+        self.assertEqual([json.loads(line)["revision"] for line in self.asked("--json")], [14, 12, 6])
+        self.assertEqual([line.split()[0] for line in self.asked("--all")], ["r14", "r12", "r11", "r6"])
+
+    def test_groups(self) -> None:
+        self.assertEqual(
+            self.asked("--by-author"),
+            ["alice", "r12\talice\tReverse that", "r6\talice\tDelete a file", ""]
+            + ["carol", "r14\tcarol\tChange inside a directory"],
+        )
+        found = self.asked("--issue", "[a-z]*e a|that|in", "--markdown")
+        self.assertEqual([line for line in found if line.startswith("## ")], ["## elete a", "## inside a", "## that"])
+        self.assertEqual(
+            [json.loads(line)["issues"] for line in self.asked("--issue", "[aeiou]", "--json")],
+            [["a", "e", "i", "o"], ["e", "a"], ["e", "a", "i"]],
+        )
+
+    def test_markdown(self) -> None:
+        properties = base.named(2, "PROJ-10 _one_ [x]\n\n* more\n")
+        dump = bytes(
+            Dump(
+                [
+                    Revision(0),
+                    Revision(1, [added(b"trunk"), added(b"tags"), added(b"trunk/f", FILE)]),
+                    Revision(2, [changed(b"trunk/f", text=b"x")], properties),
+                    Revision(3, [changed(b"trunk/f", text=b"y")], base.named(3, "PROJ-9, PROJ-10")),
+                ]
+            )
+        )
+        path = self.made("dump", dump)
+        words = (path, "new", "trunk@1", "trunk", "--issue", "PROJ-[0-9]+", "--markdown", "--full")
+        self.assertEqual(
+            base.called(*words).output.decode().splitlines(),
+            ["## PROJ-9", "", "- r3 PROJ-9, PROJ-10 (alice)", "", "## PROJ-10", "", "- r3 PROJ-9, PROJ-10 (alice)"]
+            + ["- r2 PROJ-10 \\_one\\_ \\[x\\] (alice)", "", "  \\* more"],
+        )
+        self.assertEqual(base.called(path, "new", "trunk/f@1", "trunk/f").output.count(b"\n"), 2)
+
+    def test_what_is_refused(self) -> None:
+        for words in (["--issue", "("], ["-v", "--markdown"], ["--by-author", "--issue", "x"]):
+            done = base.called(base.dump_of("merges"), "new", "trunk@3", "trunk", *words)
+            self.assertEqual((done.status, done.output), (2, b""), words)

@@ -24,12 +24,7 @@ const USAGE: &[u8] = b"svnhist: usage: svnhist-live DUMP WORKERS\n";
 
 /// Does what the arguments after the program's name ask for, and answers the status with which the program ends. Where
 /// there is no whole talk, one line for `errors` says why.
-pub(crate) fn run<
-    R: RandomSource + Threads + Wait + Sync,
-    F: Open + Pull,
-    C: Client,
-    E: Push,
->(
+pub(crate) fn run<R: RandomSource + Threads + Wait + Sync, F: Open + Pull, C: Client, E: Push>(
     rt: &R,
     alloc: Global,
     files: &mut F,
