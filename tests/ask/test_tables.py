@@ -33,7 +33,7 @@ class Tables(base.Case):
             *map(json.loads, base.called("--json", DUMP, "branches", "--ahead-behind", "--log").output.splitlines())
         ]
         self.assertEqual([row["path"] for row in table], [each["path"] for each in objects])
-        self.assertEqual([row["ahead"] for row in table], ["3", "3", "5", ""])
+        self.assertEqual([row["ahead"] for row in table], ["1", "1", "1", ""])
         self.assertEqual(
             [row["from_revision"] for row in table], [str(each.get("from", {}).get("revision", "")) for each in objects]
         )
