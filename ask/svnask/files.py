@@ -5,6 +5,7 @@ import contextlib
 import errno
 import os
 import stat
+from collections.abc import Iterator
 from typing import TYPE_CHECKING
 
 from svnask.lazy import Lazy
@@ -53,3 +54,37 @@ def remove(path: str) -> None:
         with contextlib.suppress(OSError):
             os.rename(path, os.path.join(aside, "old"))
         shutil.rmtree(aside, ignore_errors=True)
+
+
+@contextlib.contextmanager
+def replaced(final: str) -> Iterator[str]:
+    """Yield the name of a new file beside another one, whose place it takes where the block ends well."""
+    descriptor, beside = tempfile.mkstemp(prefix=".svnask-", dir=os.path.dirname(final))
+    try:
+        yield beside
+        keep_owner(descriptor, final)
+        os.fchmod(descriptor, mode_of(final))
+        os.replace(beside, final)
+    except BaseException:
+        with contextlib.suppress(OSError):
+            os.remove(beside)
+        raise
+    finally:
+        os.close(descriptor)
+
+
+def keep_owner(descriptor: int, name: str) -> None:
+    """Give a file the owner of another one, where there is that, and where this user may."""
+    with contextlib.suppress(OSError):
+        status = os.stat(name)
+        os.fchown(descriptor, status.st_uid, status.st_gid)
+
+
+def mode_of(name: str) -> int:
+    """The mode of a file, or that of a new one."""
+    try:
+        return stat.S_IMODE(os.stat(name).st_mode)
+    except FileNotFoundError:
+        mask = os.umask(0)
+        os.umask(mask)
+        return 0o666 & ~mask

@@ -1,15 +1,13 @@
 """`graph`."""
 from __future__ import annotations
 
-import contextlib
 import os
-import stat
-import tempfile
 from argparse import ArgumentParser, Namespace
 from collections.abc import Iterable, Iterator
 
 from svnask.asking.verb import Object, Verb, add_patterns, counted, object_of_life, patterns_of, shown
 from svnask.errors import Failed, Usage
+from svnask.files import replaced
 from svnask.history.open_history import OpenHistory
 from svnask.history.targets import known, revision_of
 from svnask.picture import fitting, graph, layout
@@ -101,44 +99,13 @@ def write(name: str, pieces: Iterable[bytes]) -> None:
     final = os.path.realpath(name)
     try:
         if os.path.isfile(final) or not os.path.exists(final):
-            replace(final, pieces)
+            with replaced(final) as beside, open(beside, "wb") as file:
+                file.writelines(pieces)
         else:
             with open(final, "wb") as file:
                 file.writelines(pieces)
     except OSError as error:
         raise Failed(f"cannot write {name}: {error.strerror}") from error
-
-
-def replace(final: str, pieces: Iterable[bytes]) -> None:
-    """Write a file beside another one, by a name that nobody knows before, and put it in the place of that."""
-    descriptor, beside = tempfile.mkstemp(prefix=".svnask-", dir=os.path.dirname(final))
-    try:
-        with open(descriptor, "wb") as file:
-            file.writelines(pieces)
-            keep_owner(file.fileno(), final)
-            os.fchmod(file.fileno(), mode_of(final))
-        os.replace(beside, final)
-    except BaseException:
-        with contextlib.suppress(OSError):
-            os.remove(beside)
-        raise
-
-
-def keep_owner(descriptor: int, name: str) -> None:
-    """Give a file the owner of another one, where there is that, and where this user may."""
-    with contextlib.suppress(OSError):
-        status = os.stat(name)
-        os.fchown(descriptor, status.st_uid, status.st_gid)
-
-
-def mode_of(name: str) -> int:
-    """The mode of a file, or that of a new one."""
-    try:
-        return stat.S_IMODE(os.stat(name).st_mode)
-    except FileNotFoundError:
-        mask = os.umask(0)
-        os.umask(mask)
-        return 0o666 & ~mask
 
 
 VERB = GraphVerb()

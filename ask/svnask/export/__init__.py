@@ -1,0 +1,1 @@
+"""A history as a database."""

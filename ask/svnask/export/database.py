@@ -1,0 +1,184 @@
+"""Writes a history as an SQLite database, and later adds what is new.
+
+The file is copied, the copy gets the new revisions, and takes the place of the file when it is whole.
+"""
+from __future__ import annotations
+
+import bisect
+import contextlib
+import os
+import shutil
+import sqlite3
+from collections.abc import Iterable, Iterator
+from typing import Any, NamedTuple
+
+from svnask import __version__
+from svnask.errors import Failed, Usage
+from svnask.export.schema import DERIVED, MADE, TABLES
+from svnask.files import replaced
+from svnask.history.lives import Life
+from svnask.history.open_history import OpenHistory
+from svnask.picture.graph import Graph, graph_of
+from svnask.projects import kind_of
+
+# How many revisions are read before they are written.
+PIECE = 1000
+# SQLite has checked the types of columns since this version.
+STRICT = (3, 37)
+Rows = Iterator[tuple[Any, ...]]
+
+
+class Exported(NamedTuple):
+    """The youngest revision that a database has, and how many it got."""
+
+    youngest: int
+    new: int
+
+
+def text(given: bytes | None) -> str | None:
+    """Return bytes as a text. Those that are not UTF-8 are shown as `\\xff`."""
+    return None if given is None else given.decode("utf-8", "backslashreplace")
+
+
+def export(history: OpenHistory, name: str) -> Exported:
+    """Write a history to a database, or add what is new to one that has the beginning of it."""
+    history.check()
+    final = os.path.realpath(name)
+    if name == "" or os.path.exists(final) and not os.path.isfile(final):
+        raise Usage(f"'{name}' is no name of a file")
+    try:
+        with replaced(final) as beside:
+            if os.path.exists(final):
+                shutil.copyfile(final, beside)
+            return write(history, beside, name)
+    except sqlite3.DatabaseError as error:
+        raise Failed(f"cannot write {name}: {error}") from error
+    except OSError as error:
+        raise Failed(f"cannot write {name}: {error.strerror}") from error
+
+
+def write(history: OpenHistory, path: str, name: str) -> Exported:
+    with contextlib.closing(sqlite3.connect(path, isolation_level=None)) as database:
+        # What is written is a copy, so nothing has to be taken back.
+        database.executescript("PRAGMA journal_mode = OFF; PRAGMA synchronous = OFF;")
+        first = begin(history, database, name)
+        database.execute("BEGIN")
+        fill(history, database, first)
+        database.execute("COMMIT")
+        database.execute("PRAGMA synchronous = FULL")
+        database.execute("ANALYZE")
+    return Exported(history.head, history.head + 1 - first)
+
+
+def statements(script: str) -> str:
+    return script.format(strict="STRICT" if sqlite3.sqlite_version_info >= STRICT else "")
+
+
+def begin(history: OpenHistory, database: sqlite3.Connection, name: str) -> int:
+    """Make the tables of a new database, and return the first revision that it lacks."""
+    if not database.execute("SELECT count(*) FROM sqlite_master").fetchone()[0]:
+        database.executescript(statements(TABLES))
+        return 0
+    try:
+        uuid, youngest = database.execute("SELECT uuid, youngest FROM source").fetchone()
+        kept = database.execute("SELECT author, date, message FROM revision WHERE number = ?", [youngest]).fetchone()
+    except (sqlite3.DatabaseError, TypeError) as error:
+        raise Usage(f"{name} is no database of this command: {error}") from error
+    if uuid != text(history.index.uuid) or youngest > history.head or kept != about(history, youngest):
+        raise Usage(f"{name} has another history: remove it, or take another name")
+    return int(youngest) + 1
+
+
+def about(history: OpenHistory, rev: int) -> tuple[str | None, ...]:
+    revision = history.revision(rev)
+    return text(revision.author), text(revision.date), text(revision.message)
+
+
+def put(database: sqlite3.Connection, table: str, rows: Iterable[tuple[Any, ...]]) -> None:
+    """Insert rows, of which each has all columns of a table."""
+    width = len(database.execute(f"SELECT * FROM {table} LIMIT 0").description)
+    database.executemany(f"INSERT OR REPLACE INTO {table} VALUES ({', '.join('?' * width)})", rows)
+
+
+def fill(history: OpenHistory, database: sqlite3.Connection, first: int) -> None:
+    """Write what a database lacks, from a revision on, and all that may be different since."""
+    for each in MADE:
+        database.execute(f"DROP {each.partition(' ')[0]} IF EXISTS {each.partition(' ')[2]}")
+    database.execute("DELETE FROM source")
+    # Messages may have been changed.
+    put(database, "revision", ((rev, *about(history, rev)) for rev in range(history.head + 1)))
+    for begun in range(first, history.head + 1, PIECE):
+        revs = range(begun, min(begun + PIECE, history.head + 1))
+        history.find_kinds(revs)
+        put(database, "change", changes(history, revs))
+        history.forget_changes()
+    put(database, "mergeinfo", values(history, first))
+    for statement in statements(DERIVED).split(";"):
+        database.execute(statement)
+    graph = graph_of(history, [])
+    ids = {life: number for number, life in enumerate(life for lane in graph.lanes for life in lane.lives)}
+    put(database, "branch", branches(graph, ids))
+    put(database, "branch_revision", branch_revisions(graph, ids))
+    put(database, "merge", merges(graph, ids))
+    put(database, "merge_range", merge_ranges(graph))
+    put(database, "source", [(history.source.name, text(history.index.uuid), history.head, __version__)])
+
+
+def changes(history: OpenHistory, revs: Iterable[int]) -> Rows:
+    for rev in revs:
+        for each in history.changes(rev):
+            source = (None, None) if each.source is None else (text(each.source[0]), each.source[1])
+            yield rev, text(each.path), each.letter, each.kind, each.has_text, each.has_properties, *source
+
+
+def values(history: OpenHistory, first: int) -> Rows:
+    """Yield the values of svn:mergeinfo that revisions gave to paths themselves."""
+    for rev, paths in history.explicit.settings.items():
+        if rev >= first:
+            yield from ((text(path), rev, text(history.explicit.text(path, rev))) for path in sorted(paths))
+
+
+def branches(graph: Graph, ids: dict[Life, int]) -> Rows:
+    by_path: dict[bytes, list[Life]] = {}
+    for life in ids:
+        by_path.setdefault(life.path, []).append(life)
+    for number, lane in enumerate(graph.lanes):
+        for life, following in zip(lane.lives, [*lane.lives[1:], None]):
+            source = (None, None) if life.source is None else (text(life.source[0]), life.source[1])
+            path, rev = life.source or (b"", 0)
+            origin = next((ids[each] for each in by_path.get(path, ()) if each.first <= rev <= each.last), None)
+            moved_to = None if following is None else ids[following]
+            own = text(life.path), kind_of(life.path), number, life.first, life.last, life.is_alive
+            yield ids[life], *own, *source, origin, moved_to
+
+
+def branch_revisions(graph: Graph, ids: dict[Life, int]) -> Rows:
+    for lane in graph.lanes:
+        for life in lane.lives:
+            yield from ((ids[life], rev) for rev in lane.revisions if life.first <= rev <= life.last)
+
+
+def merges(graph: Graph, ids: dict[Life, int]) -> Rows:
+    for at, each in enumerate(graph.merges):
+        into = next(life for life in graph.lanes[each.target].lives if life.first <= each.rev <= life.last)
+        newest = each.revisions[-1]
+        lives = graph.lanes[each.source].lives
+        of = next((life for life in lives if life.first <= newest <= life.last), lives[-1])
+        flags = each.lost, each.is_carried, each.is_record_only
+        yield at, each.rev, ids[into], ids[of], *flags, text(each.of), text(each.into)
+
+
+def merge_ranges(graph: Graph) -> Rows:
+    """Yield the merged revisions as ranges, in which no other revision of the merged branch is."""
+    for at, each in enumerate(graph.merges):
+        known = graph.lanes[each.source].revisions
+        first = before = None
+        for rev in each.revisions:
+            place = bisect.bisect_left(known, rev)
+            if first is None or before is None or place != before + 1:
+                if first is not None and before is not None:
+                    yield at, first, known[before]
+                first = rev
+            before = place
+        if first is not None and before is not None:
+            yield at, first, known[before]

@@ -1,0 +1,122 @@
+"""`export`: the database has what the verbs say, and gets what is new."""
+from __future__ import annotations
+
+import json
+import os
+import sqlite3
+from collections.abc import Iterable
+from contextlib import closing
+from pathlib import Path
+from typing import Any
+from unittest import mock
+
+from svnask.export import database
+from tests.ask import base
+from tests.ask.drawn_repositories import drawn, synchronized
+
+TABLES = "source revision change mergeinfo branch branch_revision merge merge_range".split()
+HOLDERS = "SELECT path, how FROM held JOIN branch ON id = held.branch WHERE revision = ? AND is_alive ORDER BY 1, 2"
+
+
+def rows(path: Path, question: str, *values: Any) -> list[tuple[Any, ...]]:
+    with closing(sqlite3.connect(path)) as opened:
+        return opened.execute(question, values).fetchall()
+
+
+class Exported(base.Case):
+    def exported(self, dump: Path, name: str = "history.db") -> Path:
+        path = self.folder / name
+        done = base.called(dump, "export", path)
+        self.assertEqual((done.status, done.output), (0, b""), done.said)
+        return path
+
+    def whole(self, path: Path) -> dict[str, list[tuple[Any, ...]]]:
+        return {table: rows(path, f"SELECT * FROM {table} ORDER BY 1, 2") for table in TABLES}
+
+    def objects(self, dump: Path, *words: str) -> list[dict[str, Any]]:
+        return [json.loads(line) for line in base.called("--json", dump, *words).output.splitlines()]
+
+    def check_holders(self, dump: Path, path: Path, revs: Iterable[int]) -> None:
+        """Compare which branches and tags have a revision with what `contains` says."""
+        for rev in revs:
+            wanted = sorted(
+                (each["path"], "merged" if each["how"] == "merged in part" else each["how"])
+                for each in self.objects(dump, "contains", str(rev))
+            )
+            found: dict[str, str] = {}
+            for how in ("recorded", "merged", "history"):
+                found.update((name, each) for name, each in rows(path, HOLDERS, rev) if each == how)
+            self.assertEqual(sorted(found.items()), wanted, (dump.name, rev))
+
+    def test_what_the_verbs_say(self) -> None:
+        dump = base.dump_of("merges")
+        path = self.exported(dump)
+        self.check_holders(dump, path, range(1, 20))
+        listed = [(each["path"], each["first"], each["last"]) for each in self.objects(dump, "branches")]
+        self.assertEqual(rows(path, "SELECT path, first, last FROM branch ORDER BY 1, 2"), sorted(listed))
+        left = [(each["path"], each["revision"]) for each in self.objects(dump, "unmerged")]
+        question = "SELECT path, revision FROM unmerged JOIN branch ON id = branch ORDER BY 1, 2"
+        self.assertEqual(rows(path, question), sorted(left))
+        changes = [
+            (each["revision"], change["path"], change["action"], change["kind"])
+            for each in self.objects(dump, "log", "-v")
+            for change in each["changes"]
+        ]
+        self.assertEqual(rows(path, "SELECT revision, path, action, kind FROM change ORDER BY 1, 2"), sorted(changes))
+        messages = [(each["revision"], each["author"], each["message"]) for each in self.objects(dump, "log")]
+        question = "SELECT number, author, message FROM revision WHERE number ORDER BY 1 DESC"
+        self.assertEqual(rows(path, question), messages)
+        again = self.exported(base.dump_of("again"), "again.db")
+        tags = {each["path"] for each in self.objects(base.dump_of("again"), "changed-tags", "/b/*")}
+        self.assertTrue(tags)
+        self.assertEqual(rows(again, "SELECT path FROM changed_tag"), [])
+
+    def test_synchronized_features(self) -> None:
+        for seed in range(3):
+            dump = self.made(f"features{seed}", synchronized(seed))
+            head = int(base.called("--json", dump, "info").output.split(b'"youngest": ')[1].split(b",")[0])
+            self.check_holders(dump, self.exported(dump, f"{seed}.db"), range(1, head + 1, 3))
+
+    def test_what_is_new_is_added(self) -> None:
+        for name in base.names():
+            dump = base.content_of(name)
+            at = dump.index(b"Revision-number: 5\n")
+            part, whole = self.made("part", dump[:at]), self.made("whole", dump)
+            path = self.exported(part, f"{name}.db")
+            self.exported(whole, f"{name}.db")
+            new = self.exported(whole, f"{name}-new.db")
+            self.assertEqual(self.whole(path), self.whole(new), name)
+            self.assertEqual(rows(path, "PRAGMA integrity_check"), [("ok",)])
+            self.assertEqual(rows(path, "PRAGMA foreign_key_check"), [])
+
+    def test_any_bytes(self) -> None:
+        for seed in range(20):
+            path = self.exported(self.made(f"dump{seed}", drawn(seed)), f"{seed}.db")
+            self.assertEqual(rows(path, "PRAGMA foreign_key_check"), [])
+
+    def test_a_file_is_whole_or_as_it_was(self) -> None:
+        path = self.exported(base.dump_of("branches"))
+        before = path.read_bytes()
+        path.unlink()
+        for content in (None, before):
+            if content is not None:
+                path.write_bytes(content)
+            with mock.patch.object(database, "graph_of", side_effect=OSError(28, "No space left on device")):
+                done = base.called(base.dump_of("branches"), "export", path)
+            self.assertEqual((done.status, done.output), (3, b""))
+            self.assertEqual(path.read_bytes() if path.exists() else None, content)
+            self.assertEqual([name for name in os.listdir(self.folder) if name.startswith(".svnask")], [])
+
+    def test_what_is_refused(self) -> None:
+        dump = self.made("dump", base.content_of("branches"))
+        other = self.exported(base.dump_of("merges"), "other.db")
+        text = self.made("text", b"some text, which is long enough\n" * 40)
+        empty = self.made("tables.db", b"")
+        with closing(sqlite3.connect(empty)) as opened:
+            opened.execute("CREATE TABLE mine (a)")
+        for name in (dump, other, Path(os.devnull), self.folder, Path(""), empty):
+            done = base.called(dump, "export", str(name) if name != Path("") else "")
+            self.assertEqual((done.status, done.output, done.said.count("\n")), (2, b"", 1), name)
+        self.assertEqual(base.called(dump, "export", text).status, 3)
+        self.assertEqual(base.called(dump, "export", self.folder / "none" / "x.db").status, 3)
+        self.assertTrue(os.path.exists(os.devnull) and not os.path.isfile(os.devnull))
