@@ -14,8 +14,12 @@ from svnask.export import database
 from tests.ask import base
 from tests.ask.drawn_repositories import drawn, synchronized
 
-TABLES = "source revision change mergeinfo branch branch_revision merge merge_range".split()
-HOLDERS = "SELECT path, how FROM held JOIN branch ON id = held.branch WHERE revision = ? AND is_alive ORDER BY 1, 2"
+TABLES = "source revision change mergeinfo branch ancestor branch_revision merge merge_range".split()
+HOLDERS = """
+SELECT path, 'history' FROM in_history JOIN branch ON id = branch WHERE revision = ?1 AND is_alive UNION
+SELECT path, CASE is_recorded WHEN 1 THEN 'recorded' ELSE 'merged' END FROM in_merge JOIN branch ON id = branch
+WHERE in_merge.revision = ?1 AND is_alive
+"""
 
 
 def rows(path: Path, question: str, *values: Any) -> list[tuple[Any, ...]]:

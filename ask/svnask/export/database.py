@@ -20,6 +20,7 @@ from svnask.history.lives import Life
 from svnask.history.open_history import OpenHistory
 from svnask.picture.graph import Graph, graph_of
 from svnask.projects import kind_of
+from svnask.revisions import Revisions, in_range
 
 # How many revisions are read before they are written.
 PIECE = 1000
@@ -115,12 +116,12 @@ def fill(history: OpenHistory, database: sqlite3.Connection, first: int) -> None
     put(database, "mergeinfo", values(history, first))
     for statement in statements(DERIVED).split(";"):
         database.execute(statement)
-    graph = graph_of(history, [])
-    ids = {life: number for number, life in enumerate(life for lane in graph.lanes for life in lane.lives)}
-    put(database, "branch", branches(graph, ids))
-    put(database, "branch_revision", branch_revisions(graph, ids))
-    put(database, "merge", merges(graph, ids))
-    put(database, "merge_range", merge_ranges(graph))
+    known = Branches(graph_of(history, []))
+    put(database, "branch", known.branches())
+    put(database, "ancestor", known.ancestors())
+    put(database, "branch_revision", known.revisions())
+    put(database, "merge", known.merges())
+    put(database, "merge_range", known.merge_ranges())
     put(database, "source", [(history.source.name, text(history.index.uuid), history.head, __version__)])
 
 
@@ -138,47 +139,69 @@ def values(history: OpenHistory, first: int) -> Rows:
             yield from ((text(path), rev, text(history.explicit.text(path, rev))) for path in sorted(paths))
 
 
-def branches(graph: Graph, ids: dict[Life, int]) -> Rows:
-    by_path: dict[bytes, list[Life]] = {}
-    for life in ids:
-        by_path.setdefault(life.path, []).append(life)
-    for number, lane in enumerate(graph.lanes):
-        for life, following in zip(lane.lives, [*lane.lives[1:], None]):
+class Branches:
+    """The branches of a graph by their numbers, and what the tables have of them."""
+
+    def __init__(self, graph: Graph) -> None:
+        self._graph = graph
+        # The number, the lane and the place in the lane of each life.
+        self._places: dict[Life, tuple[int, int, int]] = {}
+        self._by_path: dict[bytes, list[Life]] = {}
+        # Where in its lane the lives begin that each life goes on with.
+        self._begins: dict[Life, int] = {}
+        for lane, each in enumerate(graph.lanes):
+            for place, life in enumerate(each.lives):
+                before = each.lives[place - 1] if place else None
+                goes_on = before is not None and life.source == (before.path, before.last)
+                self._begins[life] = self._begins[before] if before is not None and goes_on else place
+                self._places[life] = len(self._places), lane, place
+                self._by_path.setdefault(life.path, []).append(life)
+
+    def _origin(self, life: Life) -> Life | None:
+        """Return what a life was copied from as a whole."""
+        path, rev = life.source or (b"", 0)
+        return next((each for each in self._by_path.get(path, ()) if each.first <= rev <= each.last), None)
+
+    def branches(self) -> Rows:
+        for life, (number, lane, place) in self._places.items():
+            origin, later = self._origin(life), self._graph.lanes[lane].lives[place + 1 :]
             source = (None, None) if life.source is None else (text(life.source[0]), life.source[1])
-            path, rev = life.source or (b"", 0)
-            origin = next((ids[each] for each in by_path.get(path, ()) if each.first <= rev <= each.last), None)
-            moved_to = None if following is None else ids[following]
-            own = text(life.path), kind_of(life.path), number, life.first, life.last, life.is_alive
-            yield ids[life], *own, *source, origin, moved_to
+            own = number, lane, text(life.path), kind_of(life.path), life.first, life.last, life.is_alive
+            yield *own, *source, self._number_of(origin), self._number_of(later[0] if later else None)
 
+    def _number_of(self, life: Life | None) -> int | None:
+        return None if life is None else self._places[life][0]
 
-def branch_revisions(graph: Graph, ids: dict[Life, int]) -> Rows:
-    for lane in graph.lanes:
-        for life in lane.lives:
-            yield from ((ids[life], rev) for rev in lane.revisions if life.first <= rev <= life.last)
+    def ancestors(self) -> Rows:
+        """Yield the ranges of revisions of lanes that are in the history of each life."""
+        for life, (number, _, _) in self._places.items():
+            found: Life | None = life
+            last = life.last
+            while found is not None:
+                _, lane, _ = self._places[found]
+                begin = self._graph.lanes[lane].lives[self._begins[found]]
+                yield number, lane, begin.first, last
+                found, last = self._origin(begin), 0 if begin.source is None else begin.source[1]
 
+    def revisions(self) -> Rows:
+        for life, (number, lane, _) in self._places.items():
+            revisions = self._graph.lanes[lane].revisions
+            yield from ((number, rev, lane) for rev in in_range(revisions, life.first, life.last))
 
-def merges(graph: Graph, ids: dict[Life, int]) -> Rows:
-    for at, each in enumerate(graph.merges):
-        into = next(life for life in graph.lanes[each.target].lives if life.first <= each.rev <= life.last)
-        newest = each.revisions[-1]
-        lives = graph.lanes[each.source].lives
-        of = next((life for life in lives if life.first <= newest <= life.last), lives[-1])
-        flags = each.lost, each.is_carried, each.is_record_only
-        yield at, each.rev, ids[into], ids[of], *flags, text(each.of), text(each.into)
+    def merges(self) -> Rows:
+        for at, each in enumerate(self._graph.merges):
+            into = self._number(each.target, each.rev)
+            flags = each.lost, each.is_carried, each.is_record_only, text(each.of), text(each.into)
+            yield at, each.rev, into, self._number(each.source, each.revisions[-1]), each.target, each.source, *flags
 
+    def _number(self, lane: int, rev: int) -> int:
+        """Return the life of a lane that has a revision, or else the last one."""
+        lives = self._graph.lanes[lane].lives
+        return self._places[next((life for life in lives if life.first <= rev <= life.last), lives[-1])][0]
 
-def merge_ranges(graph: Graph) -> Rows:
-    """Yield the merged revisions as ranges, in which no other revision of the merged branch is."""
-    for at, each in enumerate(graph.merges):
-        known = graph.lanes[each.source].revisions
-        first = before = None
-        for rev in each.revisions:
-            place = bisect.bisect_left(known, rev)
-            if first is None or before is None or place != before + 1:
-                if first is not None and before is not None:
-                    yield at, first, known[before]
-                first = rev
-            before = place
-        if first is not None and before is not None:
-            yield at, first, known[before]
+    def merge_ranges(self) -> Rows:
+        """Yield the merged revisions as ranges, in which no other revision of the merged branch is."""
+        for at, each in enumerate(self._graph.merges):
+            known = self._graph.lanes[each.source].revisions
+            places = Revisions.of(bisect.bisect_left(known, rev) for rev in each.revisions)
+            yield from ((at, known[first], known[last]) for first, last in places.ranges)

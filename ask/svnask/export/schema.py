@@ -20,64 +20,58 @@ CREATE TABLE mergeinfo (
     PRIMARY KEY (path, revision)
 ) {strict};
 """
-# What is written anew whenever there are new revisions.
+# What is written anew whenever there are new revisions. A branch that was renamed goes on in its lane.
 DERIVED = """
 CREATE TABLE branch (
-    id INTEGER PRIMARY KEY, path TEXT NOT NULL, kind TEXT NOT NULL, lane INTEGER NOT NULL,
+    id INTEGER PRIMARY KEY, lane INTEGER NOT NULL, path TEXT NOT NULL, kind TEXT NOT NULL,
     first INTEGER NOT NULL REFERENCES revision, last INTEGER NOT NULL REFERENCES revision, is_alive INTEGER NOT NULL,
     from_path TEXT, from_revision INTEGER, origin INTEGER REFERENCES branch, moved_to INTEGER REFERENCES branch
 ) {strict};
 CREATE INDEX branch_of_path ON branch (path);
-CREATE INDEX branch_of_lane ON branch (lane);
+CREATE TABLE ancestor (
+    branch INTEGER NOT NULL REFERENCES branch, lane INTEGER NOT NULL, first INTEGER NOT NULL, last INTEGER NOT NULL,
+    PRIMARY KEY (branch, lane, first)
+) {strict};
+CREATE INDEX ancestor_of_lane ON ancestor (lane, last);
 CREATE TABLE branch_revision (
-    branch INTEGER NOT NULL REFERENCES branch, revision INTEGER NOT NULL REFERENCES revision,
+    branch INTEGER NOT NULL REFERENCES branch, revision INTEGER NOT NULL REFERENCES revision, lane INTEGER NOT NULL,
     PRIMARY KEY (branch, revision)
 ) {strict};
-CREATE INDEX branch_revision_of_revision ON branch_revision (revision);
+CREATE INDEX branch_revision_of_revision ON branch_revision (revision, lane);
 CREATE TABLE merge (
     id INTEGER PRIMARY KEY, revision INTEGER NOT NULL REFERENCES revision,
     branch INTEGER NOT NULL REFERENCES branch, origin INTEGER NOT NULL REFERENCES branch,
+    lane INTEGER NOT NULL, origin_lane INTEGER NOT NULL,
     lost INTEGER REFERENCES revision, is_carried INTEGER NOT NULL, is_recorded INTEGER NOT NULL,
     of_path TEXT, into_path TEXT
 ) {strict};
-CREATE INDEX merge_of_branch ON merge (branch, revision);
+CREATE INDEX merge_of_origin ON merge (origin_lane, revision);
 CREATE TABLE merge_range (
-    merge INTEGER NOT NULL REFERENCES merge, first INTEGER NOT NULL REFERENCES revision,
-    last INTEGER NOT NULL REFERENCES revision, PRIMARY KEY (merge, first)
+    merge INTEGER NOT NULL REFERENCES merge, first INTEGER NOT NULL, last INTEGER NOT NULL, PRIMARY KEY (merge, first)
 ) {strict};
 
-CREATE VIEW merge_revision AS
-SELECT merge_range.merge, branch_revision.revision
-FROM merge_range JOIN merge ON merge.id = merge_range.merge JOIN branch AS origin ON origin.id = merge.origin
-JOIN branch AS life ON life.lane = origin.lane
-JOIN branch_revision ON branch_revision.branch = life.id
-    AND branch_revision.revision BETWEEN merge_range.first AND merge_range.last;
-
-CREATE VIEW ancestor AS
-WITH RECURSIVE step (branch, ancestor, upto) AS (
-    SELECT id, id, last FROM branch
-    UNION ALL
-    SELECT step.branch, branch.origin, branch.from_revision FROM step JOIN branch ON branch.id = step.ancestor
-    WHERE branch.origin IS NOT NULL
-)
-SELECT branch, ancestor, upto FROM step;
-
-CREATE VIEW held AS
-SELECT ancestor.branch, branch_revision.revision, 'history' AS how
+CREATE VIEW in_history AS
+SELECT ancestor.branch, branch_revision.revision
 FROM branch_revision JOIN ancestor
-ON ancestor.ancestor = branch_revision.branch AND branch_revision.revision <= ancestor.upto
-UNION
-SELECT ancestor.branch, merge_revision.revision, CASE merge.is_recorded WHEN 1 THEN 'recorded' ELSE 'merged' END
-FROM merge_revision JOIN merge ON merge.id = merge_revision.merge AND merge.into_path IS NULL
-JOIN ancestor ON ancestor.ancestor = merge.branch AND merge.revision <= ancestor.upto
-    AND (merge.lost IS NULL OR merge.lost > ancestor.upto);
+ON ancestor.lane = branch_revision.lane AND branch_revision.revision BETWEEN ancestor.first AND ancestor.last;
+
+CREATE VIEW in_merge AS
+SELECT ancestor.branch, branch_revision.revision, merge.revision AS merged_in, merge.is_recorded
+FROM branch_revision JOIN merge ON merge.origin_lane = branch_revision.lane AND merge.into_path IS NULL
+JOIN merge_range ON merge_range.merge = merge.id
+    AND branch_revision.revision BETWEEN merge_range.first AND merge_range.last
+JOIN ancestor ON ancestor.lane = merge.lane AND merge.revision BETWEEN ancestor.first AND ancestor.last
+    AND (merge.lost IS NULL OR merge.lost > ancestor.last);
 
 CREATE VIEW unmerged AS
 SELECT branch.id AS branch, branch_revision.revision
 FROM branch JOIN branch_revision ON branch_revision.branch = branch.id AND branch_revision.revision > branch.first
-WHERE branch.is_alive AND branch.kind = 'branch' AND branch_revision.revision NOT IN (
-    SELECT held.revision FROM held JOIN branch AS trunk ON trunk.id = held.branch
-    WHERE trunk.kind = 'trunk' AND trunk.is_alive
+WHERE branch.is_alive AND branch.kind = 'branch' AND NOT EXISTS (
+    SELECT 1 FROM in_merge JOIN branch AS trunk ON trunk.id = in_merge.branch
+    WHERE in_merge.revision = branch_revision.revision AND trunk.kind = 'trunk' AND trunk.is_alive
+) AND NOT EXISTS (
+    SELECT 1 FROM in_history JOIN branch AS trunk ON trunk.id = in_history.branch
+    WHERE in_history.revision = branch_revision.revision AND trunk.kind = 'trunk' AND trunk.is_alive
 );
 
 CREATE VIEW changed_tag AS
@@ -92,6 +86,6 @@ WHERE change.kind = 'file' GROUP BY change.path, revision.author;
 """
 # What DERIVED makes, those first that others refer to.
 MADE = (
-    *("VIEW author_of_file", "VIEW changed_tag", "VIEW unmerged", "VIEW held", "VIEW ancestor", "VIEW merge_revision"),
-    *("TABLE merge_range", "TABLE merge", "TABLE branch_revision", "TABLE branch"),
+    *("VIEW author_of_file", "VIEW changed_tag", "VIEW unmerged", "VIEW in_merge", "VIEW in_history"),
+    *("TABLE merge_range", "TABLE merge", "TABLE branch_revision", "TABLE ancestor", "TABLE branch"),
 )
