@@ -37,6 +37,7 @@ SHAPES: dict[Callable[[int], bytes], int] = {
 }
 # What stands for an argument, by its name in the help.
 ARGUMENTS = {"PATH[@PEG]": "trunk", "REV": "2", "FROM[@PEG]": "trunk@1", "TO[@PEG]": "trunk", "K": "3", "B": "100"}
+DATABASE = "history.db"
 MORE = (["log", "-v"], ["log", "-g", "trunk"], ["log", "--xml", "-v"])
 # `heirs` of a chain of copies, and `unmerged`, in which each branch has the revisions of all before it.
 AS_THE_SQUARE = {("chain", "heirs"), ("chain", "unmerged"), ("renames", "heirs")}
@@ -62,7 +63,7 @@ def questions(queries: Path) -> Iterator[list[str]]:
         if verb.needs_history:
             parser = Positional()
             verb.arguments(parser)
-            known = {**ARGUMENTS, "QUERIES": str(queries)}
+            known = {**ARGUMENTS, "QUERIES": str(queries), "FILE": str(queries.with_name(DATABASE))}
             # A verb that needs a revision by an option, too, has none of its arguments alone.
             needed = [known.get(each, each) for each in parser.names]
             yield [name, *(needed or ["2"] * (name == "contains"))]
@@ -92,6 +93,7 @@ class Found(NamedTuple):
 def asked(setup: Setup, dump: Path, words: list[str]) -> Measured:
     """Measure a question, to which there may be no answer."""
     program = ROOT / "bench" / "own_peak.py"
+    (setup.folder / DATABASE).unlink(missing_ok=True)
     taken = measure(setup.python(program, dump, *words), is_kept=False)
     if taken.outcome.status not in (0, 1):
         raise Failed(f"{words} of {dump.name} ended with {taken.outcome.shown()}")

@@ -20,9 +20,9 @@ from bench.questions import Asked, drawn, line
 from bench.tables import Limited, Row, Table, Tables
 from dev.running import Failed, Measured, Outcome
 
-ASKED = {"locate": 60000, "segments": 58500, "log": 10500, "mergeinfo": 40000, "merged": 25000, "eligible": 6000}
+ASKED = {"locate": 240000, "segments": 234000, "log": 42000, "mergeinfo": 160000, "merged": 100000, "eligible": 24000}
 REVISIONS, UNMERGED = 80000, 10
-LONG, SHORT_ONES, FEW_LONG, FEW_SHORT = 600, 300000, 80, 10000
+LONG, SHORT_ONES, FEW_LONG, FEW_SHORT = 2400, 900000, 160, 20000
 SOURCE, TARGET, ROOT = (Peg(path, REVISIONS) for path in ("source", "target", "/"))
 FOUR = 4
 MOST_OF_PROCESSES = 1.5

@@ -49,6 +49,12 @@ TOOLS = {
         "esac",
         "exit 1",
     ],
+    # A stand-in for the command of SQLite, which Python's module has not in each version.
+    "sqlite3": [
+        """exec python3 -c 'import sqlite3, sys
+for row in sqlite3.connect(sys.argv[1]).execute(sys.argv[2]):
+    print("|".join("" if each is None else str(each) for each in row))' "$@" """,
+    ],
     "svn": [
         'case "$*" in',
         "'list URL/branches@17') exec printf '%s/\\n' one three two ;;",

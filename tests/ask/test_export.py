@@ -70,10 +70,18 @@ class Exported(base.Case):
         messages = [(each["revision"], each["author"], each["message"]) for each in self.objects(dump, "log")]
         question = "SELECT number, author, message FROM revision WHERE number ORDER BY 1 DESC"
         self.assertEqual(rows(path, question), messages)
-        again = self.exported(base.dump_of("again"), "again.db")
-        tags = {each["path"] for each in self.objects(base.dump_of("again"), "changed-tags", "/b/*")}
-        self.assertTrue(tags)
-        self.assertEqual(rows(again, "SELECT path FROM changed_tag"), [])
+
+    def test_changed_tags(self) -> None:
+        for name in base.names():
+            dump = base.dump_of(name)
+            path = self.exported(dump, f"{name}.db")
+            wanted = [
+                (each["path"], rev)
+                for each in self.objects(dump, "changed-tags")
+                for rev in each["changed"]
+                if rev > each["first"]
+            ]
+            self.assertEqual(rows(path, "SELECT path, revision FROM changed_tag ORDER BY 1, 2"), sorted(wanted), name)
 
     def test_synchronized_features(self) -> None:
         for seed in range(3):
