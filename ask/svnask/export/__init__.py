@@ -1,1 +1,1 @@
-"""A history as a database."""
+"""A history for others: as a database, and for a migration."""

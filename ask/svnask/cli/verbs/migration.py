@@ -1,0 +1,66 @@
+"""`migration`: what a migration to git has to know."""
+from __future__ import annotations
+
+from argparse import ArgumentParser, Namespace
+from collections.abc import Iterator
+
+from svnask.asking.verb import Object, Verb, fields_line, object_of_life, shown
+from svnask.export.migration import Migration, migration_of
+from svnask.history.open_history import OpenHistory
+from svnask.log.plain import author_of
+from svnask.texts import decoded, encoded
+
+
+class MigrationVerb(Verb):
+    def arguments(self, parser: ArgumentParser) -> None:
+        parser.add_argument(
+            "--authors-file", action="store_true", help="a file of authors for 'git svn', to be completed"
+        )
+
+    def text(self, history: OpenHistory, given: Namespace) -> Iterator[bytes]:
+        found = migration_of(history)
+        if given.authors_file:
+            for author in found.authors:
+                name = author.name or b"(no author)"
+                yield b"%s = %s <%s@example.com>\n" % (name, name, name.replace(b" ", b"."))
+        else:
+            yield from (fields_line(fields) for fields in lines_of(history, found))
+
+    def objects(self, history: OpenHistory, given: Namespace) -> Iterator[Object]:
+        found = migration_of(history)
+        for name, first, last, count in found.authors:
+            yield {"type": "author", "author": shown(name), "first": first, "last": last, "revisions": count}
+        for path, trunk, branches, tags in found.projects:
+            yield {"type": "project", "path": decoded(path), "trunk": shown(trunk), "branches": branches, "tags": tags}
+        for life, kind, name, reason in found.lines:
+            yield {"type": kind, **object_of_life(life), "name": decoded(name), "reason": reason}
+        for rev, paths in found.several:
+            yield {"type": "several", "revision": rev, "paths": [decoded(path) for path in paths]}
+        for tag in found.tags:
+            events = [{"what": event.what, "revision": event.rev} for event in tag.events]
+            yield {"type": "changed-tag", "path": decoded(tag.life.path), "events": events}
+        for rev, of, into, how in found.merges:
+            yield {"type": "merge", "revision": rev, "of": decoded(of), "into": decoded(into), "how": how}
+
+
+def lines_of(history: OpenHistory, found: Migration) -> Iterator[list[bytes]]:
+    """Yield the fields of each line, whose first one says what it is about."""
+    for author in found.authors:
+        name = author_of(history.revision(author.first))
+        yield [b"author", name, b"r%d-r%d" % author[1:3], b"%d revisions" % author.revisions]
+    for project in found.projects:
+        counts = b"%d branches" % project.branches, b"%d tags" % project.tags
+        yield [b"project", project.path, project.trunk or b"no trunk", *counts]
+    for life, kind, name, reason in found.lines:
+        revisions = b"r%d-%s" % (life.first, b"" if life.is_alive else b"r%d" % life.last)
+        yield [encoded(kind), life.path, revisions, name, encoded(reason or "-")]
+    for rev, paths in found.several:
+        yield [b"several", b"r%d" % rev, b" ".join(paths)]
+    for tag in found.tags:
+        for event in tag.events:
+            yield [b"changed-tag", tag.life.path, b"%s in r%d" % (encoded(event.what), event.rev)]
+    for rev, of, into, how in found.merges:
+        yield [b"merge", b"r%d" % rev, of, into, encoded(how)]
+
+
+VERB = MigrationVerb()

@@ -1,0 +1,184 @@
+"""What a migration to git has to know of a history."""
+from __future__ import annotations
+
+import re
+from collections.abc import Iterable, Iterator
+from typing import NamedTuple
+
+from svnask.branches.questions import Touched, touched
+from svnask.history.lives import Life
+from svnask.history.open_history import OpenHistory
+from svnask.paths import components
+from svnask.picture.graph import Graph, LaneMerge, graph_of
+from svnask.projects import BRANCH, KINDS, TAG, TRUNK, kind_of, trunk_of
+from svnask.revisions import in_range
+
+# What git does not take in the name of a branch or a tag.
+REFUSED_PART = re.compile(rb"\A\.|\.lock\Z|\.\Z|\.\.|@\{|\A@\Z|[\x00-\x20\x7f~^:?*\[\\]")
+WHOLE, PICKED, RECORDED, PART = "whole", "picked", "recorded", "part"
+
+
+class Author(NamedTuple):
+    """An author, None for none, with the first and the last revision and how many there are."""
+
+    name: bytes | None
+    first: int
+    last: int
+    revisions: int
+
+
+class Project(NamedTuple):
+    """The folder of a project, and how many branches and tags it has today."""
+
+    path: bytes
+    trunk: bytes | None
+    branches: int
+    tags: int
+
+
+class Line(NamedTuple):
+    """A life of a trunk, a branch or a tag, the name that it would have in git, and why git can't take that."""
+
+    life: Life
+    kind: str
+    name: bytes
+    reason: str | None
+
+
+class Several(NamedTuple):
+    """A revision that changed several branches or tags."""
+
+    rev: int
+    paths: list[bytes]
+
+
+class Merging(NamedTuple):
+    """A merge, by the paths that were merged and merged into, and how git can show it.
+
+    A `whole` merge has all of a branch up to its newest revision there, as a commit with two parents has. Others are
+    `picked`, a `part` below a branch, or only `recorded`.
+    """
+
+    rev: int
+    of: bytes
+    into: bytes
+    how: str
+
+
+class Migration(NamedTuple):
+    authors: list[Author]
+    projects: list[Project]
+    lines: list[Line]
+    several: list[Several]
+    tags: list[Touched]
+    merges: list[Merging]
+
+
+def migration_of(history: OpenHistory) -> Migration:
+    history.check()
+    graph = graph_of(history, [])
+    lives = [life for lane in graph.lanes for life in lane.lives]
+    merges = list(mergings(graph))
+    return Migration(
+        authors_of(history),
+        projects_of(lives),
+        list(lines_of(lives)),
+        list(several_in(graph)),
+        list(touched(history, ())) if any(kind_of(life.path) == TAG for life in lives) else [],
+        merges,
+    )
+
+
+def authors_of(history: OpenHistory) -> list[Author]:
+    """Return the authors by their names, first those that have none."""
+    found: dict[bytes | None, list[int]] = {}
+    for rev in range(1, history.head + 1):
+        found.setdefault(history.revision(rev).author, []).append(rev)
+    authors = [Author(name, revs[0], revs[-1], len(revs)) for name, revs in found.items()]
+    return sorted(authors, key=lambda author: (author.name is not None, author.name or b""))
+
+
+def projects_of(lives: Iterable[Life]) -> list[Project]:
+    """Return the projects of what is there today, by their folders."""
+    found: dict[bytes, dict[str, set[bytes]]] = {}
+    for life in lives:
+        trunk = trunk_of(life.path)
+        if life.is_alive and trunk is not None:
+            kinds = found.setdefault(trunk.rpartition(b"/")[0] or b"/", {kind: set() for kind in KINDS})
+            kinds[kind_of(life.path)].add(life.path)
+    return [
+        Project(path, min(kinds[TRUNK], default=None), len(kinds[BRANCH]), len(kinds[TAG]))
+        for path, kinds in sorted(found.items())
+    ]
+
+
+def lines_of(lives: Iterable[Life]) -> Iterator[Line]:
+    """Yield the lives by their paths, with their names in git."""
+    known: set[tuple[str, bytes]] = set()
+    for life in sorted(lives, key=lambda life: (life.path, -life.first)):
+        kind, name = kind_of(life.path), name_in_git(life.path)
+        key = TAG if kind == TAG else BRANCH, name
+        yield Line(life, kind, name, reason_against(name, key in known))
+        known.add(key)
+
+
+def name_in_git(path: bytes) -> bytes:
+    """Return what follows the folder of branches or tags, or `main` for a trunk, after the name of the project."""
+    trunk = trunk_of(path)
+    project = b"" if trunk is None else trunk.rpartition(b"/")[0].lstrip(b"/")
+    parts = components(path)[len(components(project)) :]
+    own = b"main" if parts == [b"trunk"] else b"/".join(parts[1:] if parts[0] in (b"branches", b"tags") else parts)
+    return project + b"/" + own if project else own
+
+
+def reason_against(name: bytes, is_known: bool) -> str | None:
+    if any(REFUSED_PART.search(part) for part in name.split(b"/")):
+        return "git does not take this name"
+    return "a newer one has this name" if is_known else None
+
+
+def several_in(graph: Graph) -> Iterator[Several]:
+    """Yield the revisions that changed several branches or tags that they did not make."""
+    found: dict[int, list[bytes]] = {}
+    for lane in graph.lanes:
+        for life in lane.lives:
+            for rev in lane.revisions:
+                if life.first < rev <= life.last:
+                    found.setdefault(rev, []).append(life.path)
+    return (Several(rev, sorted(paths)) for rev, paths in sorted(found.items()) if len(paths) > 1)
+
+
+def mergings(graph: Graph) -> Iterator[Merging]:
+    """Yield the merges, but for what another branch carried along, and how git can show them."""
+    merged: dict[tuple[int, int], set[int]] = {}
+    for merge in graph.merges:
+        had = merged.setdefault((merge.source, merge.target), set())
+        had.update(merge.revisions)
+        if not merge.is_carried:
+            of, into = (
+                life_at(graph, *each).path for each in ((merge.source, merge.revisions[-1]), (merge.target, merge.rev))
+            )
+            yield Merging(merge.rev, merge.of or of, merge.into or into, how_in_git(graph, merge, had))
+
+
+def life_at(graph: Graph, lane: int, rev: int) -> Life:
+    lives = graph.lanes[lane].lives
+    return next((life for life in lives if life.has(rev)), lives[-1])
+
+
+def how_in_git(graph: Graph, merge: LaneMerge, had: set[int]) -> str:
+    if merge.is_record_only:
+        return RECORDED
+    if merge.of or merge.into:
+        return PART
+    needed = in_range(graph.lanes[merge.source].revisions, history_begin(graph, merge) + 1, max(had))
+    return WHOLE if had.issuperset(needed) else PICKED
+
+
+def history_begin(graph: Graph, merge: LaneMerge) -> int:
+    """Return the last revision of the merged branch that the other one has by a copy of it, or the copy of it."""
+    source, target = graph.lanes[merge.source].lives[0], graph.lanes[merge.target].lives[0]
+    copies = {copy.lane: copy for copy in graph.copies}
+    if merge.target in copies and copies[merge.target].source == merge.source and target.source is not None:
+        return target.source[1]
+    return source.first

@@ -1,0 +1,82 @@
+"""`migration`: authors, projects, names in git, revisions of several branches, merges."""
+from __future__ import annotations
+
+import json
+from typing import Any
+
+from dev.dumps import FILE, Dump, Revision, added, changed, copied, mergeinfo
+from svnask.export.migration import name_in_git, reason_against
+from tests.ask import base
+
+
+class Migrations(base.Case):
+    def lines(self, *words: base.Word) -> list[str]:
+        done = base.called(*words, "migration")
+        self.assertEqual((done.status, done.said), (0, ""))
+        return done.output.decode().splitlines()
+
+    def test_merges_as_git_shows_them(self) -> None:
+        found = [line.split("\t") for line in self.lines(base.dump_of("merges")) if line.startswith("merge")]
+        self.assertEqual(
+            [(rev, how) for _, rev, _, _, how in found],
+            [("r7", "whole"), ("r8", "picked"), ("r9", "recorded"), ("r11", "whole"), ("r13", "whole")]
+            + [("r15", "part"), ("r19", "recorded")],
+        )
+
+    def test_a_merge_lacks_what_was_left_out(self) -> None:
+        """A merge is whole where the revision is merged, too, that an earlier one left out."""
+        folders = [*map(added, (b"trunk", b"branches")), added(b"trunk/f", FILE)]
+        changes = [[changed(b"trunk/f", text=b"%d" % number)] for number in range(3)]
+        merges = [
+            [changed(b"branches/b", mergeinfo(b"/trunk:" + revs)), changed(b"branches/b/f", text=revs)]
+            for revs in (b"3,5", b"3-5")
+        ]
+        revisions = [folders, [copied(b"branches/b", b"trunk", 1)], *changes, *merges]
+        dump = self.made(
+            "dump", bytes(Dump([Revision(0), *(Revision(rev, nodes) for rev, nodes in enumerate(revisions, 1))]))
+        )
+        found = [line.split("\t") for line in self.lines(dump) if line.startswith("merge")]
+        self.assertEqual([(each[1], each[4]) for each in found], [("r6", "picked"), ("r7", "whole")])
+
+    def test_revisions_of_several_branches(self) -> None:
+        folders = [*map(added, (b"trunk", b"branches")), added(b"trunk/f", FILE)]
+        both = [changed(path + b"/f", text=b"x") for path in (b"branches/b", b"trunk")]
+        revisions = [folders, [copied(b"branches/b", b"trunk", 1)], both]
+        dump = self.made(
+            "dump", bytes(Dump([Revision(0), *(Revision(rev, nodes) for rev, nodes in enumerate(revisions, 1))]))
+        )
+        self.assertEqual(
+            [line for line in self.lines(dump) if line.startswith("sev")], ["several\tr3\t/branches/b /trunk"]
+        )
+
+    def test_names(self) -> None:
+        for path, name in (
+            (b"/trunk", b"main"),
+            (b"/branches/a", b"a"),
+            (b"/tags/1.0", b"1.0"),
+            (b"/alpha/beta/trunk", b"alpha/beta/main"),
+            (b"/alpha/branches/a", b"alpha/a"),
+            (b"/branches/people/dora", b"people/dora"),
+            (b"/vendor/x", b"vendor/x"),
+        ):
+            self.assertEqual(name_in_git(path), name)
+        for refused in (b".a", b"a.lock", b"a..b", b"a b", b"a~1", b"a:b", b"@", b"a.", b"x/.y", b"a\x7f", b"a@{b"):
+            self.assertIsNotNone(reason_against(refused, False), refused)
+        for name in (b"a", b"a.b", b"a@b", b"\xc3\xb6", b"1.0-rc1"):
+            self.assertIsNone(reason_against(name, False), name)
+
+    def test_authors_and_projects(self) -> None:
+        dump = base.dump_of("projects")
+        objects: list[dict[str, Any]] = [
+            json.loads(line) for line in base.called("--json", dump, "migration").output.splitlines()
+        ]
+        authors = [json.loads(line)["author"] for line in base.called("--json", dump, "log").output.splitlines()]
+        for each in objects:
+            if each["type"] == "author":
+                self.assertEqual(each["revisions"], authors.count(each["author"]))
+        folders = [each["path"] for each in objects if each["type"] == "project"]
+        self.assertEqual(folders, ["/alpha", "/beta", "/delta", "/group/gamma"])
+        lives = {(each["path"], each["first"]) for each in objects if each["type"] in ("trunk", "branch", "tag")}
+        listed = [json.loads(line) for line in base.called("--json", dump, "branches").output.splitlines()]
+        self.assertEqual(lives, {(each["path"], each["first"]) for each in listed})
+        self.assertEqual(base.called(dump, "migration", "--authors-file").output.count(b" = "), 3)
