@@ -43,7 +43,7 @@ class Peg(NamedTuple):
 
 @dataclass(frozen=True)
 class Mix:
-    """How many records a revision has, and their weights; the width of directories, and the sizes of texts."""
+    """The number of records of a revision, and their weights; the width of directories, and the sizes of texts."""
 
     records: int
     weights: Mapping[str, float]

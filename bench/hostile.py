@@ -37,7 +37,7 @@ Keys = Callable[[int], Key]
 
 @dataclass(frozen=True)
 class Shape:
-    """What makes the dump and the queries, their size, and the status of all answers or why the dump is refused."""
+    """The makers of the dump and the queries, their size, and the status of all answers or why the dump is refused."""
 
     dump: Maker
     size: int

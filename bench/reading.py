@@ -1,4 +1,4 @@
-"""How fast dumps are read from a pipe."""
+"""Reading dumps from a pipe."""
 from __future__ import annotations
 
 from collections.abc import Iterator
@@ -10,7 +10,7 @@ from bench.tables import Cell, Limited, Row, Table, Tables
 
 
 class Read(NamedTuple):
-    """What is read: a history, what stands beside it, and how much slower the program may be."""
+    """A reading: a history, what stands beside it, and how much slower the program may be."""
 
     mix: Mix
     revisions: int
@@ -41,6 +41,6 @@ def rows(setup: Setup) -> Iterator[Row]:
 
 
 def measured(setup: Setup) -> Tables:
-    """How fast dumps are read from a pipe, beside `grep` and `wc`; nothing is built, for a last block is refused."""
+    """Reading dumps from a pipe, beside `grep` and `wc`; nothing is built, for a last block is refused."""
     heading = "what is read | MB:.0f | seconds:.3f | beside it | seconds:.3f | relative:.2f | peak MB:.0f"
     yield Table("reading", heading, list(rows(setup)))

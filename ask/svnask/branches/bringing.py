@@ -21,7 +21,7 @@ class NamedPart(NamedTuple):
     inheritable: bool
 
 
-class MergedPart(NamedTuple):
+class MergedRevisions(NamedTuple):
     """Revisions of a source path that one revision merged into a path."""
 
     target: bytes
@@ -77,7 +77,7 @@ class Bringing:
         changed = self._history.explicit.settings.get(rev, set())
         return {each.path for each in self._history.changes(rev) if each.letter == "M" and each.path in changed}
 
-    def _merged(self, rev: int, targets: set[bytes]) -> Iterator[MergedPart]:
+    def _merged(self, rev: int, targets: set[bytes]) -> Iterator[MergedRevisions]:
         """Yield what a revision merged, by the values of the paths whose mergeinfo it changed."""
         history, explicit = self._history, self._history.explicit
         for target in sorted(targets):
@@ -89,9 +89,11 @@ class Bringing:
             for path, ranges in gained.items():
                 runs = (Run(lo, hi, True) for lo, hi in ranges)
                 for part in queries_of_source(history.tree, history.head, path, runs) if is_askable(path) else ():
-                    yield MergedPart(target, path, part.query)
+                    yield MergedRevisions(target, path, part.query)
 
-    def _is_merge_alone(self, rev: int, targets: set[bytes], merged: Iterable[tuple[MergedPart, list[int]]]) -> bool:
+    def _is_merge_alone(
+        self, rev: int, targets: set[bytes], merged: Iterable[tuple[MergedRevisions, list[int]]]
+    ) -> bool:
         """Return whether a revision changed mergeinfo, and else only paths that came with what it merged."""
         if not targets:
             return False

@@ -51,14 +51,14 @@ def export(history: OpenHistory, name: str) -> Exported:
         with replaced(final) as beside:
             if os.path.exists(final):
                 shutil.copyfile(final, beside)
-            return write(history, beside, name)
+            return write_database(history, beside, name)
     except sqlite3.DatabaseError as error:
         raise Failed(f"cannot write {name}: {error}") from error
     except OSError as error:
         raise Failed(f"cannot write {name}: {error.strerror}") from error
 
 
-def write(history: OpenHistory, path: str, name: str) -> Exported:
+def write_database(history: OpenHistory, path: str, name: str) -> Exported:
     with contextlib.closing(sqlite3.connect(path, isolation_level=None)) as database:
         # What is written is a copy, so nothing has to be taken back.
         database.executescript("PRAGMA journal_mode = OFF; PRAGMA synchronous = OFF;")
@@ -85,12 +85,12 @@ def begin(history: OpenHistory, database: sqlite3.Connection, name: str) -> int:
         kept = database.execute("SELECT author, date, message FROM revision WHERE number = ?", [youngest]).fetchone()
     except (sqlite3.DatabaseError, TypeError) as error:
         raise Usage(f"{name} is no database of this command: {error}") from error
-    if uuid != text(history.index.uuid) or youngest > history.head or kept != about(history, youngest):
+    if uuid != text(history.index.uuid) or youngest > history.head or kept != properties_of(history, youngest):
         raise Usage(f"{name} has another history: remove it, or take another name")
     return int(youngest) + 1
 
 
-def about(history: OpenHistory, rev: int) -> tuple[str | None, ...]:
+def properties_of(history: OpenHistory, rev: int) -> tuple[str | None, ...]:
     revision = history.revision(rev)
     return text(revision.author), text(revision.date), text(revision.message)
 
@@ -107,7 +107,7 @@ def fill(history: OpenHistory, database: sqlite3.Connection, first: int) -> None
         database.execute(f"DROP {each.partition(' ')[0]} IF EXISTS {each.partition(' ')[2]}")
     database.execute("DELETE FROM source")
     # Messages may have been changed.
-    put(database, "revision", ((rev, *about(history, rev)) for rev in range(history.head + 1)))
+    put(database, "revision", ((rev, *properties_of(history, rev)) for rev in range(history.head + 1)))
     for begun in range(first, history.head + 1, PIECE):
         revs = range(begun, min(begun + PIECE, history.head + 1))
         history.find_kinds(revs)

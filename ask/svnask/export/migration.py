@@ -36,7 +36,7 @@ class Project(NamedTuple):
     tags: int
 
 
-class Line(NamedTuple):
+class NamedLife(NamedTuple):
     """A life of a trunk, a branch or a tag, the name that it would have in git, and why git can't take that."""
 
     life: Life
@@ -52,7 +52,7 @@ class Several(NamedTuple):
     paths: list[bytes]
 
 
-class Merging(NamedTuple):
+class ShownMerge(NamedTuple):
     """A merge, by the paths that were merged and merged into, and how git can show it.
 
     A `whole` merge has all of a branch up to its newest revision there, as a commit with two parents has. Others are
@@ -68,21 +68,21 @@ class Merging(NamedTuple):
 class Migration(NamedTuple):
     authors: list[Author]
     projects: list[Project]
-    lines: list[Line]
+    lives: list[NamedLife]
     several: list[Several]
     tags: list[Touched]
-    merges: list[Merging]
+    merges: list[ShownMerge]
 
 
 def migration_of(history: OpenHistory) -> Migration:
     history.check()
     graph = graph_of(history, [])
     lives = [life for lane in graph.lanes for life in lane.lives]
-    merges = list(mergings(graph))
+    merges = list(shown_merges(graph))
     return Migration(
         authors_of(history),
         projects_of(lives),
-        list(lines_of(lives)),
+        list(named_lives(lives)),
         list(several_in(graph)),
         list(touched(history, ())) if any(kind_of(life.path) == TAG for life in lives) else [],
         merges,
@@ -112,13 +112,13 @@ def projects_of(lives: Iterable[Life]) -> list[Project]:
     ]
 
 
-def lines_of(lives: Iterable[Life]) -> Iterator[Line]:
+def named_lives(lives: Iterable[Life]) -> Iterator[NamedLife]:
     """Yield the lives by their paths, with their names in git."""
     known: set[tuple[str, bytes]] = set()
     for life in sorted(lives, key=lambda life: (life.path, -life.first)):
         kind, name = kind_of(life.path), name_in_git(life.path)
         key = TAG if kind == TAG else BRANCH, name
-        yield Line(life, kind, name, reason_against(name, key in known))
+        yield NamedLife(life, kind, name, reason_against(name, key in known))
         known.add(key)
 
 
@@ -148,7 +148,7 @@ def several_in(graph: Graph) -> Iterator[Several]:
     return (Several(rev, sorted(paths)) for rev, paths in sorted(found.items()) if len(paths) > 1)
 
 
-def mergings(graph: Graph) -> Iterator[Merging]:
+def shown_merges(graph: Graph) -> Iterator[ShownMerge]:
     """Yield the merges, but for what another branch carried along, and how git can show them."""
     merged: dict[tuple[int, int], set[int]] = {}
     for merge in graph.merges:
@@ -158,7 +158,7 @@ def mergings(graph: Graph) -> Iterator[Merging]:
             of, into = (
                 life_at(graph, *each).path for each in ((merge.source, merge.revisions[-1]), (merge.target, merge.rev))
             )
-            yield Merging(merge.rev, merge.of or of, merge.into or into, how_in_git(graph, merge, had))
+            yield ShownMerge(merge.rev, merge.of or of, merge.into or into, how_in_git(graph, merge, had))
 
 
 def life_at(graph: Graph, lane: int, rev: int) -> Life:

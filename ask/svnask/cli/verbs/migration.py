@@ -24,7 +24,7 @@ class MigrationVerb(Verb):
                 name = author.name or b"(no author)"
                 yield b"%s = %s <%s@example.com>\n" % (name, name, name.replace(b" ", b"."))
         else:
-            yield from (fields_line(fields) for fields in lines_of(history, found))
+            yield from (fields_line(fields) for fields in fields_of_lines(history, found))
 
     def objects(self, history: OpenHistory, given: Namespace) -> Iterator[Object]:
         found = migration_of(history)
@@ -32,7 +32,7 @@ class MigrationVerb(Verb):
             yield {"type": "author", "author": shown(name), "first": first, "last": last, "revisions": count}
         for path, trunk, branches, tags in found.projects:
             yield {"type": "project", "path": decoded(path), "trunk": shown(trunk), "branches": branches, "tags": tags}
-        for life, kind, name, reason in found.lines:
+        for life, kind, name, reason in found.lives:
             yield {"type": kind, **object_of_life(life), "name": decoded(name), "reason": reason}
         for rev, paths in found.several:
             yield {"type": "several", "revision": rev, "paths": [decoded(path) for path in paths]}
@@ -43,7 +43,7 @@ class MigrationVerb(Verb):
             yield {"type": "merge", "revision": rev, "of": decoded(of), "into": decoded(into), "how": how}
 
 
-def lines_of(history: OpenHistory, found: Migration) -> Iterator[list[bytes]]:
+def fields_of_lines(history: OpenHistory, found: Migration) -> Iterator[list[bytes]]:
     """Yield the fields of each line, whose first one says what it is about."""
     for author in found.authors:
         name = author_of(history.revision(author.first))
@@ -51,7 +51,7 @@ def lines_of(history: OpenHistory, found: Migration) -> Iterator[list[bytes]]:
     for project in found.projects:
         counts = b"%d branches" % project.branches, b"%d tags" % project.tags
         yield [b"project", project.path, project.trunk or b"no trunk", *counts]
-    for life, kind, name, reason in found.lines:
+    for life, kind, name, reason in found.lives:
         revisions = b"r%d-%s" % (life.first, b"" if life.is_alive else b"r%d" % life.last)
         yield [encoded(kind), life.path, revisions, name, encoded(reason or "-")]
     for rev, paths in found.several:

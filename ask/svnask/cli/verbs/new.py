@@ -30,7 +30,7 @@ def regex(text: str) -> re.Pattern[str]:
         raise ArgumentTypeError(f"'{text}' is not a regular expression: {error}") from error
 
 
-def escaped(text: bytes) -> bytes:
+def in_markdown(text: bytes) -> bytes:
     return SPECIAL.sub(rb"\\\1", text)
 
 
@@ -62,10 +62,10 @@ class NewVerb(Verb):
         if not given.by_author and given.issue is None:
             yield from self.lines(history, given, found)
             return
-        parts = grouped((names_of(history, each, given), each) for each in found)
+        parts = grouped((groups_of(history, each, given), each) for each in found)
         for place, (name, of_group) in enumerate(parts):
             yield b"\n" * (place > 0)
-            yield b"## %s\n\n" % escaped(name) if given.markdown else name + b"\n"
+            yield b"## %s\n\n" % in_markdown(name) if given.markdown else name + b"\n"
             yield from self.lines(history, given, of_group)
 
     def lines(self, history: OpenHistory, given: Namespace, found: list[Gained]) -> Iterator[bytes]:
@@ -99,7 +99,7 @@ def issues_of(history: OpenHistory, each: Gained, issue: re.Pattern[str]) -> lis
     return [LINE_END.sub(b" ", name) for name in dict.fromkeys(found) if name]
 
 
-def names_of(history: OpenHistory, each: Gained, given: Namespace) -> list[bytes]:
+def groups_of(history: OpenHistory, each: Gained, given: Namespace) -> list[bytes]:
     """Return the names of the groups in which a revision stands."""
     if given.issue is None:
         return [author_of(history.revision(each.rev))]
@@ -126,9 +126,9 @@ def markdown(history: OpenHistory, found: list[Gained], given: Namespace) -> Ite
         revision = history.revision(each.rev)
         author, date, line = about(revision)
         by = b", ".join([author, *[date] * given.log])
-        yield b"- r%d %s (%s)\n" % (each.rev, escaped(line), escaped(by))
+        yield b"- r%d %s (%s)\n" % (each.rev, in_markdown(line), in_markdown(by))
         rest = LINE_END.split((revision.message or b"").strip())[1:] if given.full else []
-        yield from (b"  %s\n" % escaped(text) if text.strip() else b"\n" for text in rest)
+        yield from (b"  %s\n" % in_markdown(text) if text.strip() else b"\n" for text in rest)
 
 
 VERB = NewVerb()
