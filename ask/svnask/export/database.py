@@ -85,12 +85,12 @@ def begin(history: OpenHistory, database: sqlite3.Connection, name: str) -> int:
         kept = database.execute("SELECT author, date, message FROM revision WHERE number = ?", [youngest]).fetchone()
     except (sqlite3.DatabaseError, TypeError) as error:
         raise Usage(f"{name} is no database of this command: {error}") from error
-    if uuid != text(history.index.uuid) or youngest > history.head or kept != properties_of(history, youngest):
+    if uuid != text(history.index.uuid) or youngest > history.head or kept != row_of(history, youngest):
         raise Usage(f"{name} has another history: remove it, or take another name")
     return int(youngest) + 1
 
 
-def properties_of(history: OpenHistory, rev: int) -> tuple[str | None, ...]:
+def row_of(history: OpenHistory, rev: int) -> tuple[str | None, ...]:
     revision = history.revision(rev)
     return text(revision.author), text(revision.date), text(revision.message)
 
@@ -107,7 +107,7 @@ def fill(history: OpenHistory, database: sqlite3.Connection, first: int) -> None
         database.execute(f"DROP {each.partition(' ')[0]} IF EXISTS {each.partition(' ')[2]}")
     database.execute("DELETE FROM source")
     # Messages may have been changed.
-    put(database, "revision", ((rev, *properties_of(history, rev)) for rev in range(history.head + 1)))
+    put(database, "revision", ((rev, *row_of(history, rev)) for rev in range(history.head + 1)))
     for begun in range(first, history.head + 1, PIECE):
         revs = range(begun, min(begun + PIECE, history.head + 1))
         history.find_kinds(revs)
