@@ -211,7 +211,7 @@ class History:
             features = sorted(f"/branches/feature-{rev + each}:{rev // 2}-{rev + 1}\n" for each in range(5))
             self.copy(release, TRUNK, rev, tree["trunk"])
             self.releases[release] = "".join(features) + f"/trunk:{rev}"
-        runs = self.lot.sample(range(self.rev + 1 - self.mix.releases, self.rev, 2), 5)
+        runs = self.lot.sample(range(self.rev + 1 - self.mix.releases, self.rev, 2), self.mix.releases // 3)
         self.releases[release] += "".join(f",{rev}" for rev in sorted(runs))
         self.set_mergeinfo(release, self.releases[release])
 

@@ -81,19 +81,24 @@ def machine(times: int) -> str:
     )
 
 
-def measure_all(names: list[str], setup: Setup) -> tuple[dict[str, str], bool]:
-    """Run parts and print their tables. Return these, and whether all limits are met."""
-    tables, is_met = {}, True
+def measure_all(names: list[str], setup: Setup, page: Path | None) -> bool:
+    """Run parts, print their tables, and write them to a page. Return whether all limits are met."""
+    is_met = True
     for name in names:
         print(f"## {name}\n", flush=True)
         began = time.perf_counter()
         with tempfile.TemporaryDirectory(dir=setup.folder) as folder:
             for table in PARTS[name](Setup(setup.program, setup.live, Path(folder), setup.times, setup.is_quick)):
                 print(table, flush=True)
-                tables[table.name] = str(table)
+                write(page, table.name, str(table))
                 is_met = is_met and table.is_met
         print(f"{time.perf_counter() - began:.0f} seconds\n", flush=True)
-    return tables, is_met
+    return is_met
+
+
+def write(page: Path | None, name: str, text: str) -> None:
+    if page:
+        page.write_text(with_tables(page.read_text(encoding="utf-8"), {name: text}), encoding="utf-8")
 
 
 def run(given: argparse.Namespace, folder: Path) -> int:
@@ -101,12 +106,8 @@ def run(given: argparse.Namespace, folder: Path) -> int:
         if not os.access(program, os.X_OK):
             raise Failed(f"{program} does not exist; ./svnhist builds it")
     setup = Setup(given.program.resolve(), given.live.resolve(), folder, given.times, given.quick)
-    tables, is_met = measure_all(given.only or list(PARTS), setup)
-    if given.page:
-        if not given.only:
-            tables["machine"] = machine(given.times)
-        given.page.write_text(with_tables(given.page.read_text(encoding="utf-8"), tables), encoding="utf-8")
-    return 0 if is_met else 1
+    write(given.page, "machine", machine(given.times))
+    return 0 if measure_all(given.only or list(PARTS), setup, given.page) else 1
 
 
 def main() -> int:
