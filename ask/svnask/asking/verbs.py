@@ -23,6 +23,7 @@ HELP = {
     "graph": "a picture of branches and tags, their copies and merges, as SVG for a browser",
     "export": "write the history to an SQLite database, or add what is new to it",
     "migration": "what a migration to git has to know: authors, projects, names, changed tags, merges",
+    "check-git": "what differs in a repository of git that was made of the history, with status 1 if anything does",
     "record": "the record of a number, as in '16 NoParent at record 162'",
     "byte": "what stands at an offset of the dump, as in '4 Length at byte 5930'",
     "info": "the dump: its format, revisions, dates and records",

@@ -10,7 +10,7 @@ from svnask.history.lives import Tree
 from svnask.history.open_history import OpenHistory
 from svnask.mergeinfo.values import Run
 from svnask.merges.value_changes import MalformedValue, Values
-from svnask.paths import is_at_or_below, joined, rest_below, tops_of
+from svnask.paths import is_at_or_below, joined, rest_below
 
 
 class NamedPart(NamedTuple):
@@ -21,11 +21,11 @@ class NamedPart(NamedTuple):
     inheritable: bool
 
 
-class MergedRevisions(NamedTuple):
-    """Revisions of a source path that one revision merged into a path."""
+class Asked(NamedTuple):
+    """A path that a revision changed, and the query for the merged revisions of where it came from."""
 
-    target: bytes
-    source: bytes
+    changed: bytes
+    path: bytes
     query: Log
 
 
@@ -62,14 +62,18 @@ class Bringing:
     def among(self, revisions: Iterable[int]) -> set[int]:
         """Return those that bring something."""
         asked = set(revisions)
-        left = sorted(asked - self._known.keys())
-        targets = {rev: self._targets(rev) for rev in left}
-        parts = {rev: list(self._merged(rev, paths)) for rev, paths in targets.items() if paths}
-        answers = self._history.answers(part.query for each in parts.values() for part in each)
-        for rev in left:
-            merged = ((part, answers[part.query].revisions) for part in parts.get(rev, ()))
-            is_alone = is_copy_alone(self._history.changes(rev)) or self._is_merge_alone(rev, targets[rev], merged)
-            self._known[rev] = not is_alone
+        left: dict[int, dict[bytes, list[Asked]]] = {}
+        for rev in sorted(asked - self._known.keys()):
+            changes, targets = self._history.changes(rev), self._targets(rev)
+            rest = [each.path for each in changes if each.has_text or each.path not in targets]
+            self._known[rev] = bool(rest or not targets) and not is_copy_alone(changes)
+            if self._known[rev] and targets:
+                left[rev] = self._origins(rev, targets, rest)
+        answers = self._history.answers(each.query for paths in left.values() for of in paths.values() for each in of)
+        for rev, paths in left.items():
+            self._known[rev] = not all(
+                any(self._is_changed(each.path, answers[each.query].revisions) for each in of) for of in paths.values()
+            )
         return {rev for rev in asked if self._known[rev]}
 
     def _targets(self, rev: int) -> set[bytes]:
@@ -77,32 +81,41 @@ class Bringing:
         changed = self._history.explicit.settings.get(rev, set())
         return {each.path for each in self._history.changes(rev) if each.letter == "M" and each.path in changed}
 
-    def _merged(self, rev: int, targets: set[bytes]) -> Iterator[MergedRevisions]:
-        """Yield what a revision merged, by the values of the paths whose mergeinfo it changed."""
-        history, explicit = self._history, self._history.explicit
-        for target in sorted(targets):
-            try:
-                before, now = (explicit.text(target, each) or b"" for each in (rev - 1, rev))
-                gained = self._values.difference(before, now).gained
-            except MalformedValue:
-                continue
-            for path, ranges in gained.items():
-                runs = (Run(lo, hi, True) for lo, hi in ranges)
-                for part in queries_of_source(history.tree, history.head, path, runs) if is_askable(path) else ():
-                    yield MergedRevisions(target, path, part.query)
+    def _origins(self, rev: int, targets: set[bytes], paths: Iterable[bytes]) -> dict[bytes, list[Asked]]:
+        """Return where each changed path may have come from with what was merged, but for those that surely did."""
+        merged = [(target, *each) for target in sorted(targets) for each in self._merged(rev, target)]
+        found: dict[bytes, list[Asked]] = {}
+        for path in paths:
+            found[path] = []
+            for target, source, lo, hi in merged:
+                if is_at_or_below(path, target):
+                    origin = joined(source, rest_below(path, target))
+                    if self._is_moved(origin, source, lo, hi):
+                        del found[path]
+                        break
+                    if is_askable(origin) and self._history.tree.exists(origin, hi):
+                        found[path].append(Asked(path, origin, Log(origin, hi, (lo, hi))))
+        return found
 
-    def _is_merge_alone(
-        self, rev: int, targets: set[bytes], merged: Iterable[tuple[MergedRevisions, list[int]]]
-    ) -> bool:
-        """Return whether a revision changed mergeinfo, and else only paths that came with what it merged."""
-        if not targets:
-            return False
-        left = [each for each in self._history.changes(rev) if each.has_text or each.path not in targets]
-        brought: set[bytes] = set()
-        moved: set[bytes] = set()
-        for part, revisions in merged if left else ():
-            for other in revisions:
-                for change in self._history.changes_below(other, part.source):
-                    path = joined(part.target, rest_below(change.path, part.source))
-                    (brought if change.letter == "M" else moved).add(path)
-        return all(each.path in brought or any(top in moved for top in tops_of(each.path)) for each in left)
+    def _merged(self, rev: int, target: bytes) -> Iterator[tuple[bytes, int, int]]:
+        """Yield the sources whose revisions were merged into a path, with ranges of these, each in one life."""
+        history, explicit = self._history, self._history.explicit
+        try:
+            before, now = (explicit.text(target, each) or b"" for each in (rev - 1, rev))
+            gained = self._values.difference(before, now).gained
+        except MalformedValue:
+            return
+        for path, ranges in gained.items():
+            for life in history.tree.lives(path, history.head) if is_askable(path) else ():
+                for lo, hi in ranges:
+                    if max(lo, life.first) <= min(hi, life.last):
+                        yield path, max(lo, life.first), min(hi, life.last)
+
+    def _is_moved(self, path: bytes, source: bytes, lo: int, hi: int) -> bool:
+        """Return whether a path was made or deleted by a range of revisions of a source, or one above it was."""
+        events = self._history.tree.events(path)
+        return any(lo <= event.rev <= hi and is_at_or_below(top, source) for top, event in events)
+
+    def _is_changed(self, path: bytes, revisions: Iterable[int]) -> bool:
+        """Return whether one of some revisions changed a path itself."""
+        return any(each.path == path for rev in revisions for each in self._history.changes_below(rev, path))
