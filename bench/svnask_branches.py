@@ -18,7 +18,7 @@ REVISIONS = 100000
 # Seconds that a question may take beyond `info`, which reads the same.
 VERBS = {
     "branches": 3.0,
-    "branches --ahead-behind": 8.0,
+    "branches --ahead-behind": 15.0,
     "contains 1000": 3.0,
     "changed-tags /branches/*": 3.0,
     "graph": 3.0,

@@ -107,11 +107,13 @@ class Distance(NamedTuple):
 
 
 class Distances:
-    """The distances of paths from targets, by the revisions that `gained` lists."""
+    """The distances of paths from targets, by the revisions that `gained` lists. The paths are there today."""
 
-    def __init__(self, history: OpenHistory) -> None:
+    def __init__(self, history: OpenHistory, paths: Iterable[bytes]) -> None:
         self._history = history
         self._recorded = Recorded(history)
+        # What they were copied from is walked once for all.
+        self._recorded.of((path, history.head) for path in paths)
         self._held: dict[Target, HeldRevisions] = {}
         self._bringing = Bringing(history)
 

@@ -74,6 +74,8 @@ class Recorded:
         left = iter(revisions)
         following = next(left, None)
         for rev in candidates(self._explicit, life):
+            if following is None:
+                return
             while following is not None and following < rev:
                 self._known[life.path, following] = dict(found)
                 following = next(left, None)

@@ -108,7 +108,7 @@ def distances(history: OpenHistory, listed: Sequence[branches.Listed], word: str
     """Return how far the branches of today are from a target, or from the trunks of their projects."""
     into = target_of(history, word) if word else None
     found: dict[Life, Distance] = {}
-    counted = Distances(history)
+    counted = Distances(history, (each.life.path for each in listed if each.life.is_alive))
     if into is not None:
         counted.held(into)
     said: set[str] = set()
