@@ -63,6 +63,9 @@ def questions(queries: Path) -> Iterator[list[str]]:
         if verb.needs_history:
             parser = Positional()
             verb.arguments(parser)
+            # There is nothing to compare with.
+            if name == "check-git":
+                continue
             known = {**ARGUMENTS, "QUERIES": str(queries), "FILE": str(queries.with_name(DATABASE))}
             # A verb that needs a revision by an option, too, has none of its arguments alone.
             needed = [known.get(each, each) for each in parser.names]
