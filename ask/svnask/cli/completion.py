@@ -43,7 +43,7 @@ BASH = "bash"
 # The names that the help has for arguments: how those with a peg revision end, other paths of the repository, which
 # are names for other things where they are values of options, and files.
 PEG, PATTERN = "[@PEG]", "PATTERN"
-PATHS, FILES = ("PATH", PATTERN), ("FILE", "QUERIES")
+PATHS, FILES = ("PATH", PATTERN), ("FILE", "FOLDER", "QUERIES")
 BELOW = "--below"
 # Words that stand for themselves.
 LITERAL = re.compile(r"[a-z:|]+\Z")

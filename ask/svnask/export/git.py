@@ -33,13 +33,16 @@ class Difference(NamedTuple):
     text: bytes
 
 
-class Commit(NamedTuple):
-    """A commit: how many parents it has, and by what it is known."""
+# The author, the time and the message by which a commit is known that notes no revision.
+Text = tuple[bytes, int, bytes]
 
+
+class Commit(NamedTuple):
+    """A commit: its hash, how many parents it has, and what it notes."""
+
+    name: bytes
     parents: int
-    author: bytes
-    time: int
-    message: bytes
+    text: Text
     rev: int | None
 
 
@@ -49,7 +52,14 @@ class Git:
     def __init__(self, folder: str) -> None:
         self._folder = folder
         self.refs = set(self._asked("for-each-ref", "--format=%(refname)").splitlines())
-        self._commits: dict[bytes, list[Commit]] = {}
+        self._by_rev: dict[int, list[Commit]] = {}
+        self._by_text: dict[Text, list[Commit]] = {}
+        for text in self._asked("log", "--all", "--format=" + FORM).split(b"\0\1") if self.refs else ():
+            if text.strip():
+                commit = commit_of(text.lstrip(b"\n"))
+                self._by_text.setdefault(commit.text, []).append(commit)
+                if commit.rev is not None:
+                    self._by_rev.setdefault(commit.rev, []).append(commit)
 
     def _asked(self, *words: str | bytes) -> bytes:
         try:
@@ -66,18 +76,20 @@ class Git:
     def files(self, ref: bytes) -> set[bytes]:
         return set(filter(None, self._asked("ls-tree", "-r", "-z", "--name-only", ref).split(b"\0")))
 
-    def commits(self, ref: bytes) -> list[Commit]:
-        """Return the commits that a ref reaches."""
-        if ref not in self._commits:
-            found = self._asked("log", "--format=" + FORM, ref, "--").split(b"\0\1")
-            self._commits[ref] = [commit_of(each.lstrip(b"\n")) for each in found if each.strip()]
-        return self._commits[ref]
+    def reached(self, ref: bytes) -> set[bytes]:
+        """Return the hashes of the commits that a ref reaches."""
+        return set(self._asked("rev-list", ref, "--").split())
+
+    def commits(self, rev: int, text: Text) -> list[Commit]:
+        """Return the commits of a revision."""
+        return self._by_rev.get(rev) or self._by_text.get(text) or []
 
 
 def commit_of(text: bytes) -> Commit:
-    _, parents, author, time, message = text.split(b"\0", 4)
+    name, parents, author, time, message = text.split(b"\0", 4)
     named = ID.findall(message)
-    return Commit(len(parents.split()), author, int(time), message.strip(), int(named[-1]) if named else None)
+    of = author, int(time), message.strip()
+    return Commit(name, len(parents.split()), of, int(named[-1]) if named else None)
 
 
 class Comparison:
@@ -106,11 +118,10 @@ class Comparison:
             return
         self._refs[life.path] = ref
         yield from self._of_files(life, ref)
-        commits = self._git.commits(ref)
-        known = {each.rev for each in commits}
-        named_by_text = {(each.author, each.time, each.message) for each in commits}
+        reached = self._git.reached(ref)
         for rev in self._lanes[life].revisions:
-            if self._is_shown(life, rev) and rev not in known and self._text_of(rev) not in named_by_text:
+            commits = self._git.commits(rev, self._text_of(rev))
+            if reached.isdisjoint(commit.name for commit in commits) and self._is_shown(life, rev):
                 yield Difference("revision", life.path, b"r%d has no commit" % rev)
 
     def _of_files(self, life: Life, ref: bytes) -> Iterator[Difference]:
@@ -130,25 +141,15 @@ class Comparison:
         changes = self._history.changes_below(rev, place)
         return any(each.has_text or each.letter != "M" and each.kind == "file" for each in changes)
 
-    def _text_of(self, rev: int) -> tuple[bytes, int, bytes]:
-        """Return the author, the time and the message by which a commit is known."""
+    def _text_of(self, rev: int) -> Text:
         revision = self._history.revision(rev)
         return revision.author or b"", seconds_of(revision.date), (revision.message or b"").strip()
 
     def _of_merge(self, merge: ShownMerge) -> Iterator[Difference]:
-        ref = self._refs.get(merge.into)
-        if ref is None:
-            return
-        text = self._text_of(merge.rev)
-        commits = self._git.commits(ref)
-        commit = next((each for each in commits if merge.rev == each.rev or text == each[1:4]), None)
-        if commit is not None and (commit.parents > 1) != (merge.how == WHOLE):
-            said = b"a merge of %s by r%d is %s, and has %d parents" % (
-                merge.of,
-                merge.rev,
-                merge.how.encode("ascii"),
-                commit.parents,
-            )
+        commits = self._git.commits(merge.rev, self._text_of(merge.rev)) if merge.into in self._refs else []
+        if commits and all((commit.parents > 1) != (merge.how == WHOLE) for commit in commits):
+            how, parents = merge.how.encode("ascii"), commits[0].parents
+            said = b"a merge of %s by r%d is %s, and has %d parents" % (merge.of, merge.rev, how, parents)
             yield Difference("merge", merge.into, said)
 
 
