@@ -21,7 +21,7 @@ VERBS = {
     "branches --ahead-behind": 15.0,
     "contains 1000": 3.0,
     "changed-tags /branches/*": 3.0,
-    "graph": 3.0,
+    "graph": 12.0,
     "unmerged": 6.0,
     "log trunk": 3.0,
     **{f"log -g{options} trunk": 4.0 for options in ("", " -q", " -v", " --xml", " --xml -v")},
