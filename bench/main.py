@@ -12,6 +12,7 @@ import shutil
 import subprocess
 import sys
 import tempfile
+import textwrap
 import time
 from collections.abc import Callable
 from pathlib import Path
@@ -74,11 +75,12 @@ def machine(times: int) -> str:
             "Subversion "
             + subprocess.run(["svn", "--version", "-q"], stdout=subprocess.PIPE, check=True, text=True).stdout.strip()
         )
-    return (
-        f"svnhist {version}, measured on {datetime.date.today()}\non {model}, {len(os.sched_getaffinity(0))} cores, "
-        f"{memory:.0f} GB,\n{platform.platform()},\nwith {subversion} and Python {platform.python_version()}. "
-        f"A figure is the best of {times}.\n"
+    words = (
+        f"svnhist {version}, measured on {datetime.date.today()} on {model}, {len(os.sched_getaffinity(0))} cores, "
+        f"{memory:.0f} GB, {platform.platform()}, with {subversion} and Python {platform.python_version()}. "
+        f"A figure is the best of {times}."
     )
+    return textwrap.fill(words, 120, break_long_words=False, break_on_hyphens=False) + "\n"
 
 
 def measure_all(names: list[str], setup: Setup, page: Path | None) -> bool:
