@@ -92,7 +92,7 @@ class Plain:
             for path, action in actions.items()
         )
 
-    def changed(self, rev: int) -> dict[plain.Path, bool]:
+    def changed_by(self, rev: int) -> dict[plain.Path, bool]:
         """Return the paths that a revision changes, and whether each was only changed, and not made or deleted."""
         found: dict[plain.Path, bool] = {}
         for record in self.records[rev]:
@@ -106,46 +106,46 @@ class Plain:
     def targets(self, rev: int) -> list[plain.Path]:
         """Return the paths that have other mergeinfo by a revision than where they were before."""
         found = []
-        for path, is_change in self.changed(rev).items():
+        for path, is_change in self.changed_by(rev).items():
             origin = self.history.trees[rev][path].origin if is_change else None
             if origin is not None and self.text(path, rev) != self.text(*origin):
                 found.append(path)
         return found
 
-    def brought(self, target: plain.Path, rev: int) -> tuple[set[plain.Path], set[plain.Path]]:
-        """Return the paths below a target that came with what was merged: those that were changed, and others."""
+    def brought(self, into: plain.Path, rev: int) -> tuple[set[plain.Path], set[plain.Path]]:
+        """Return the paths below a path that came with what was merged: those that were changed, and others."""
         before, now = (
             {
                 (source, each)
-                for source, runs in plain.value_of(self.text(target, at) or b"").items()
+                for source, runs in plain.value_of(self.text(into, at) or b"").items()
                 for run in runs
                 for each in range(run.low, min(run.high, len(self.history.trees) - 1) + 1)
             }
             for at in (rev - 1, rev)
         )
-        changed: set[plain.Path] = set()
+        modified: set[plain.Path] = set()
         moved: set[plain.Path] = set()
         for source, each in now - before:
             if source in self.history.trees[each] and plain.is_operative(self.history, source, each):
-                for path, is_change in self.changed(each).items():
+                for path, is_change in self.changed_by(each).items():
                     if plain.is_below(path, source):
-                        (changed if is_change else moved).add(target + path[len(source) :])
-        return changed, moved
+                        (modified if is_change else moved).add(into + path[len(source) :])
+        return modified, moved
 
     def is_merge_alone(self, rev: int) -> bool:
         """Return whether a revision changes mergeinfo, and else only what came with what it merged."""
         targets = self.targets(rev)
-        changed: set[plain.Path] = set()
+        modified: set[plain.Path] = set()
         moved: set[plain.Path] = set()
         for each in targets:
             try:
                 more_changed, more_moved = self.brought(each, rev)
             except plain.Malformed:
                 continue
-            changed, moved = changed | more_changed, moved | more_moved
-        left = [path for path in self.changed(rev) if path in self.texts[rev] or path not in targets]
+            modified, moved = modified | more_changed, moved | more_moved
+        left = [path for path in self.changed_by(rev) if path in self.texts[rev] or path not in targets]
         return bool(targets) and all(
-            path in changed or any(plain.is_below(path, other) for other in moved) for path in left
+            path in modified or any(plain.is_below(path, other) for other in moved) for path in left
         )
 
     def new(self, before: plain.Place, after: plain.Place) -> set[int]:

@@ -21,7 +21,7 @@ class NamedPart(NamedTuple):
     inheritable: bool
 
 
-class Asked(NamedTuple):
+class AskedOrigin(NamedTuple):
     """A path that a revision changed, and the query for the merged revisions of where it came from."""
 
     changed: bytes
@@ -62,7 +62,7 @@ class Bringing:
     def among(self, revisions: Iterable[int]) -> set[int]:
         """Return those that bring something."""
         asked = set(revisions)
-        left: dict[int, dict[bytes, list[Asked]]] = {}
+        left: dict[int, dict[bytes, list[AskedOrigin]]] = {}
         for rev in sorted(asked - self._known.keys()):
             changes, targets = self._history.changes(rev), self._targets(rev)
             rest = [each.path for each in changes if each.has_text or each.path not in targets]
@@ -81,10 +81,10 @@ class Bringing:
         changed = self._history.explicit.settings.get(rev, set())
         return {each.path for each in self._history.changes(rev) if each.letter == "M" and each.path in changed}
 
-    def _origins(self, rev: int, targets: set[bytes], paths: Iterable[bytes]) -> dict[bytes, list[Asked]]:
+    def _origins(self, rev: int, targets: set[bytes], paths: Iterable[bytes]) -> dict[bytes, list[AskedOrigin]]:
         """Return where each changed path may have come from with what was merged, but for those that surely did."""
         merged = [(target, *each) for target in sorted(targets) for each in self._merged(rev, target)]
-        found: dict[bytes, list[Asked]] = {}
+        found: dict[bytes, list[AskedOrigin]] = {}
         for path in paths:
             found[path] = []
             for target, source, lo, hi in merged:
@@ -94,7 +94,7 @@ class Bringing:
                         del found[path]
                         break
                     if is_askable(origin) and self._history.tree.exists(origin, hi):
-                        found[path].append(Asked(path, origin, Log(origin, hi, (lo, hi))))
+                        found[path].append(AskedOrigin(path, origin, Log(origin, hi, (lo, hi))))
         return found
 
     def _merged(self, rev: int, target: bytes) -> Iterator[tuple[bytes, int, int]]:

@@ -62,7 +62,7 @@ def write_database(history: OpenHistory, path: str, name: str) -> Exported:
     with contextlib.closing(sqlite3.connect(path, isolation_level=None)) as database:
         # What is written is a copy, so nothing has to be taken back.
         database.executescript("PRAGMA journal_mode = OFF; PRAGMA synchronous = OFF;")
-        first = begin(history, database, name)
+        first = first_lacking(history, database, name)
         database.execute("BEGIN")
         fill(history, database, first)
         database.execute("COMMIT")
@@ -75,7 +75,7 @@ def statements(script: str) -> str:
     return script.format(strict="STRICT" if sqlite3.sqlite_version_info >= STRICT else "")
 
 
-def begin(history: OpenHistory, database: sqlite3.Connection, name: str) -> int:
+def first_lacking(history: OpenHistory, database: sqlite3.Connection, name: str) -> int:
     """Make the tables of a new database, and return the first revision that it lacks."""
     if not database.execute("SELECT count(*) FROM sqlite_master").fetchone()[0]:
         database.executescript(statements(TABLES))

@@ -25,8 +25,8 @@ PLACES = {TAG: "refs/tags/ refs/remotes/origin/tags/ refs/remotes/tags/ refs/hea
 OTHERS = "refs/heads/ refs/remotes/origin/ refs/remotes/".split()
 
 
-class Difference(NamedTuple):
-    """What differs of a path: its ref, a revision, a file or a merge."""
+class GitDifference(NamedTuple):
+    """A difference of a path: of its ref, a revision, a file or a merge."""
 
     what: str
     path: bytes
@@ -102,7 +102,7 @@ class Comparison:
         self._lanes: dict[Life, Lane] = {life: lane for lane in self._graph.lanes for life in lane.lives}
         self._refs: dict[bytes, bytes] = {}
 
-    def differences(self) -> Iterator[Difference]:
+    def differences(self) -> Iterator[GitDifference]:
         """Yield what differs of each branch and tag of today, by their paths."""
         for each in named_lives(self._lanes):
             if each.life.is_alive:
@@ -110,11 +110,11 @@ class Comparison:
         for merge in shown_merges(self._graph):
             yield from self._of_merge(merge)
 
-    def _of_life(self, named: NamedLife) -> Iterator[Difference]:
+    def _of_life(self, named: NamedLife) -> Iterator[GitDifference]:
         life = named.life
         ref = next((ref for ref in refs_of(named) if ref in self._git.refs), None)
         if ref is None:
-            yield Difference("ref", life.path, b"no ref is named %s" % named.name)
+            yield GitDifference("ref", life.path, b"no ref is named %s" % named.name)
             return
         self._refs[life.path] = ref
         yield from self._of_files(life, ref)
@@ -122,17 +122,17 @@ class Comparison:
         for rev in self._lanes[life].revisions:
             commits = self._git.commits(rev, self._text_of(rev))
             if reached.isdisjoint(commit.name for commit in commits) and self._is_shown(life, rev):
-                yield Difference("revision", life.path, b"r%d has no commit" % rev)
+                yield GitDifference("revision", life.path, b"r%d has no commit" % rev)
 
-    def _of_files(self, life: Life, ref: bytes) -> Iterator[Difference]:
+    def _of_files(self, life: Life, ref: bytes) -> Iterator[GitDifference]:
         ours, theirs = files_at(self._history, life.path, life.last), self._git.files(ref)
         # The values of svn:ignore become such files.
         added = {name for name in theirs - ours if name.rpartition(b"/")[2] != b".gitignore"}
         for names, text in ((ours - theirs, b"only in svn"), (added, b"only in git")):
             for name in sorted(names)[:MOST_NAMES]:
-                yield Difference("file", joined(life.path, name), text)
+                yield GitDifference("file", joined(life.path, name), text)
             if len(names) > MOST_NAMES:
-                yield Difference("file", life.path, b"%d more are %s" % (len(names) - MOST_NAMES, text))
+                yield GitDifference("file", life.path, b"%d more are %s" % (len(names) - MOST_NAMES, text))
 
     def _is_shown(self, life: Life, rev: int) -> bool:
         """Return whether git has something to show of a revision: a file that was changed, added or deleted."""
@@ -145,12 +145,12 @@ class Comparison:
         revision = self._history.revision(rev)
         return revision.author or b"", seconds_of(revision.date), (revision.message or b"").strip()
 
-    def _of_merge(self, merge: ShownMerge) -> Iterator[Difference]:
+    def _of_merge(self, merge: ShownMerge) -> Iterator[GitDifference]:
         commits = self._git.commits(merge.rev, self._text_of(merge.rev)) if merge.into in self._refs else []
         if commits and all((commit.parents > 1) != (merge.how == WHOLE) for commit in commits):
             how, parents = merge.how.encode("ascii"), commits[0].parents
             said = b"a merge of %s by r%d is %s, and has %d parents" % (merge.of, merge.rev, how, parents)
-            yield Difference("merge", merge.into, said)
+            yield GitDifference("merge", merge.into, said)
 
 
 def files_at(history: OpenHistory, top: bytes, rev: int) -> set[bytes]:
