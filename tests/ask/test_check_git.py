@@ -8,7 +8,7 @@ from typing import Callable
 
 from dev.running import run
 from svnask import History
-from svnask.export.git import files_at, seconds_of
+from svnask.export.git import files_at, time_of
 from svnask.export.migration import WHOLE, NamedLife, named_lives, shown_merges
 from svnask.picture.graph import Graph, graph_of
 from tests.ask import base
@@ -42,7 +42,7 @@ def stream_of(history: History, commits: Iterable[Commit]) -> Iterator[bytes]:
     """Yield what `git fast-import` reads."""
     known: set[bytes] = set()
     for name, rev, author, message, files, merged in commits:
-        when = b"%s <%s@x> %d +0000" % (author, author, seconds_of(history.revision(rev).date))
+        when = b"%s <%s@x> %d +0000" % (author, author, time_of(history.revision(rev).date))
         yield b"commit %s\nauthor %s\ncommitter %s\ndata %d\n%s\n" % (name, when, when, len(message), message)
         if name not in known and known:
             yield b"from refs/heads/main\n" if b"refs/heads/main" in known else b""

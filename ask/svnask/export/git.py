@@ -1,7 +1,6 @@
 """Compares what a migration made of a history with the history itself."""
 from __future__ import annotations
 
-import datetime
 import re
 import subprocess
 from collections.abc import Iterator
@@ -9,6 +8,7 @@ from typing import NamedTuple
 
 from svnask.errors import Failed
 from svnask.export.migration import WHOLE, NamedLife, ShownMerge, named_lives, shown_merges
+from svnask.history.dates import read_date
 from svnask.history.lives import Life
 from svnask.history.open_history import OpenHistory
 from svnask.paths import joined, rest_below
@@ -143,7 +143,7 @@ class Comparison:
 
     def _text_of(self, rev: int) -> Text:
         revision = self._history.revision(rev)
-        return revision.author or b"", seconds_of(revision.date), (revision.message or b"").strip()
+        return revision.author or b"", time_of(revision.date), (revision.message or b"").strip()
 
     def _of_merge(self, merge: ShownMerge) -> Iterator[GitDifference]:
         commits = self._git.commits(merge.rev, self._text_of(merge.rev)) if merge.into in self._refs else []
@@ -167,13 +167,10 @@ def files_at(history: OpenHistory, top: bytes, rev: int) -> set[bytes]:
     return {rest_below(path, top) for path, _ in places if kinds.get((path, rev)) == "file"}
 
 
-def seconds_of(date: bytes | None) -> int:
+def time_of(date: bytes | None) -> int:
     """Return the seconds of a date of a revision since 1970, or 0 where it is none."""
-    try:
-        text = (date or b"").decode("ascii").rstrip("Z")
-        return int(datetime.datetime.fromisoformat(text).replace(tzinfo=datetime.timezone.utc).timestamp())
-    except ValueError:
-        return 0
+    found = None if date is None else read_date(date)
+    return 0 if found is None else found[0]
 
 
 def refs_of(named: NamedLife) -> Iterator[bytes]:
