@@ -39,8 +39,8 @@ SHAPES: dict[Callable[[int], bytes], int] = {
 ARGUMENTS = {"PATH[@PEG]": "trunk", "REV": "2", "FROM[@PEG]": "trunk@1", "TO[@PEG]": "trunk", "K": "3", "B": "100"}
 DATABASE = "history.db"
 MORE = (["log", "-v"], ["log", "-g", "trunk"], ["log", "--xml", "-v"])
-# `heirs` of a chain of copies, and `unmerged`, in which each branch has the revisions of all before it.
-AS_THE_SQUARE = {("chain", "heirs"), ("chain", "unmerged"), ("renames", "heirs")}
+# `heirs` of a chain of copies, and `unmerged` and `export`, in which each branch has the revisions of all before it.
+AS_THE_SQUARE = {("chain", "heirs"), ("chain", "unmerged"), ("chain", "export"), ("renames", "heirs")}
 # Shorter times are taken for this one, since they vary.
 LEAST = 0.5
 # How often a verb is measured that misses a limit: other work on the machine may have taken the time.
