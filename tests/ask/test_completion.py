@@ -412,7 +412,7 @@ class Shells(CompletionTest):
         if shutil.which(words[0]) is None:
             self.skipTest(f"{words[0]} is not installed")
         rows = {
-            f"svnask {DUMP} check": "check-mergeinfo",
+            f"svnask {DUMP} check-m": "check-mergeinfo",
             f"svnask {DUMP} log /br": "/branches/",
             f"svnask {DUMP} propget svn:": "svn:mergeinfo",
             f"svnask {DUMP} unmerged --into=tr": "--into=trunk",

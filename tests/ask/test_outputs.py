@@ -34,11 +34,11 @@ class Outputs(base.Case):
         self.assertGreater(count, 700)
 
     def test_each_verb_prints_what_it_printed_of_several_projects(self) -> None:
-        """The answers were looked at one by one. Those of `ask` have a test of their own."""
+        """The answers were looked at one by one. What takes or makes a file has tests of its own."""
         recorded = list(outputs.read(PROJECTS))
         for wanted in recorded:
             with self.subTest(arguments=wanted.arguments):
                 done = base.called(base.dump_of("projects"), *wanted.arguments)
                 self.assertEqual((done.status, done.output + done.said.encode()), (wanted.status, wanted.text))
         asked = {each.arguments[0] for each in recorded}
-        self.assertEqual({name for name in HELP if verb_named(name).needs_history} - asked, {"ask"})
+        self.assertEqual({name for name in HELP if verb_named(name).needs_history} - asked, {"ask", "check-git", "export"})
