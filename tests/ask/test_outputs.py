@@ -41,4 +41,6 @@ class Outputs(base.Case):
                 done = base.called(base.dump_of("projects"), *wanted.arguments)
                 self.assertEqual((done.status, done.output + done.said.encode()), (wanted.status, wanted.text))
         asked = {each.arguments[0] for each in recorded}
-        self.assertEqual({name for name in HELP if verb_named(name).needs_history} - asked, {"ask", "check-git", "export"})
+        self.assertEqual(
+            {name for name in HELP if verb_named(name).needs_history} - asked, {"ask", "check-git", "export"}
+        )
