@@ -101,6 +101,15 @@ class Exported(base.Case):
             self.assertEqual(rows(path, "PRAGMA integrity_check"), [("ok",)])
             self.assertEqual(rows(path, "PRAGMA foreign_key_check"), [])
 
+    def test_a_changed_message_is_written(self) -> None:
+        dump = base.content_of("branches")
+        path = self.exported(self.made("dump", dump))
+        self.exported(self.made("other", dump.replace(b"alice", b"malic")))
+        authors = [
+            author for author, in rows(path, "SELECT DISTINCT author FROM revision WHERE author IS NOT NULL ORDER BY 1")
+        ]
+        self.assertEqual(authors, ["bob", "carol", "malic"])
+
     def test_any_bytes(self) -> None:
         for seed in range(20):
             path = self.exported(self.made(f"dump{seed}", drawn(seed)), f"{seed}.db")

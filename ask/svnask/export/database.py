@@ -82,10 +82,11 @@ def first_lacking(history: OpenHistory, database: sqlite3.Connection, name: str)
         return 0
     try:
         uuid, youngest = database.execute("SELECT uuid, youngest FROM source").fetchone()
-        kept = database.execute("SELECT author, date, message FROM revision WHERE number = ?", [youngest]).fetchone()
+        (date,) = database.execute("SELECT date FROM revision WHERE number = ?", [youngest]).fetchone()
     except (sqlite3.DatabaseError, TypeError) as error:
         raise Usage(f"{name} is no database of this command: {error}") from error
-    if uuid != text(history.index.uuid) or youngest > history.head or kept != row_of(history, youngest):
+    # Authors and messages may have been changed.
+    if uuid != text(history.index.uuid) or youngest > history.head or date != text(history.revision(youngest).date):
         raise Usage(f"{name} has another history: remove it, or take another name")
     return int(youngest) + 1
 
@@ -106,7 +107,6 @@ def fill(history: OpenHistory, database: sqlite3.Connection, first: int) -> None
     for each in MADE:
         database.execute(f"DROP {each.partition(' ')[0]} IF EXISTS {each.partition(' ')[2]}")
     database.execute("DELETE FROM source")
-    # Messages may have been changed.
     put(database, "revision", ((rev, *row_of(history, rev)) for rev in range(history.head + 1)))
     for begun in range(first, history.head + 1, PIECE):
         revs = range(begun, min(begun + PIECE, history.head + 1))

@@ -100,7 +100,8 @@ class Comparison:
         self._history, self._git = history, Git(folder)
         self._graph: Graph = graph_of(history, [])
         self._lanes: dict[Life, Lane] = {life: lane for lane in self._graph.lanes for life in lane.lives}
-        self._refs: dict[bytes, bytes] = {}
+        # The branches and tags that have a ref.
+        self._found: set[bytes] = set()
 
     def differences(self) -> Iterator[GitDifference]:
         """Yield what differs of each branch and tag of today, by their paths."""
@@ -116,7 +117,7 @@ class Comparison:
         if ref is None:
             yield GitDifference("ref", life.path, b"no ref is named %s" % named.name)
             return
-        self._refs[life.path] = ref
+        self._found.add(life.path)
         yield from self._of_files(life, ref)
         reached = self._git.reached(ref)
         for rev in self._lanes[life].revisions:
@@ -146,7 +147,7 @@ class Comparison:
         return revision.author or b"", time_of(revision.date), (revision.message or b"").strip()
 
     def _of_merge(self, merge: ShownMerge) -> Iterator[GitDifference]:
-        commits = self._git.commits(merge.rev, self._text_of(merge.rev)) if merge.into in self._refs else []
+        commits = self._git.commits(merge.rev, self._text_of(merge.rev)) if merge.into in self._found else []
         if commits and all((commit.parents > 1) != (merge.how == WHOLE) for commit in commits):
             how, parents = merge.how.encode("ascii"), commits[0].parents
             said = b"a merge of %s by r%d is %s, and has %d parents" % (merge.of, merge.rev, how, parents)
