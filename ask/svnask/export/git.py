@@ -3,7 +3,7 @@ from __future__ import annotations
 
 import re
 import subprocess
-from collections.abc import Iterator
+from collections.abc import Iterable, Iterator
 from typing import NamedTuple
 
 from svnask.errors import Failed
@@ -13,7 +13,7 @@ from svnask.history.lives import Life
 from svnask.history.open_history import OpenHistory
 from svnask.paths import joined, rest_below
 from svnask.picture.graph import Graph, Lane, graph_of
-from svnask.projects import TAG, TRUNK
+from svnask.projects import TAG, TRUNK, trunk_of
 
 # What `git svn` writes at the end of a message, and svn-all-fast-export with --add-metadata.
 ID = re.compile(rb"(?:git-svn-id: \S+@|svn path=\S*; revision=)([0-9]+)")
@@ -105,15 +105,16 @@ class Comparison:
 
     def differences(self) -> Iterator[GitDifference]:
         """Yield what differs of each branch and tag of today, by their paths."""
-        for each in named_lives(self._lanes):
-            if each.life.is_alive:
-                yield from self._of_life(each)
+        alive = [each for each in named_lives(self._lanes) if each.life.is_alive]
+        is_alone = len({trunk_of(each.life.path) for each in alive}) == 1
+        for each in alive:
+            yield from self._of_life(each, refs_of(each, is_alone))
         for merge in shown_merges(self._graph):
             yield from self._of_merge(merge)
 
-    def _of_life(self, named: NamedLife) -> Iterator[GitDifference]:
+    def _of_life(self, named: NamedLife, refs: Iterable[bytes]) -> Iterator[GitDifference]:
         life = named.life
-        ref = next((ref for ref in refs_of(named) if ref in self._git.refs), None)
+        ref = next((ref for ref in refs if ref in self._git.refs), None)
         if ref is None:
             yield GitDifference("ref", life.path, b"no ref is named %s" % named.name)
             return
@@ -174,12 +175,12 @@ def time_of(date: bytes | None) -> int:
     return 0 if found is None else found[0]
 
 
-def refs_of(named: NamedLife) -> Iterator[bytes]:
-    """Yield the refs that a branch or a tag may have, with and without the name of its project."""
+def refs_of(named: NamedLife, is_alone: bool) -> Iterator[bytes]:
+    """Yield the refs that a branch or a tag may have, without the name of a project that is alone, too."""
     project, _, last = named.name.rpartition(b"/")
-    names = [named.name, last]
+    names = [named.name] + [last] * is_alone
     if named.kind == TRUNK:
-        names = [joined_name(project, name) for name in TRUNKS] + TRUNKS
+        names = [joined_name(project, name) for name in TRUNKS] + TRUNKS * is_alone
     for place in PLACES.get(named.kind, OTHERS):
         yield from (place.encode("ascii") + name for name in names)
 
