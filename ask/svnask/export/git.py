@@ -6,7 +6,7 @@ import subprocess
 from collections.abc import Iterable, Iterator
 from typing import NamedTuple
 
-from svnask.errors import Failed
+from svnask.errors import Denied, Failed
 from svnask.export.migration import WHOLE, NamedLife, ShownMerge, named_lives, shown_merges
 from svnask.history.dates import read_date
 from svnask.history.lives import Life
@@ -106,6 +106,8 @@ class Comparison:
     def differences(self) -> Iterator[GitDifference]:
         """Yield what differs of each branch and tag of today, by their paths."""
         alive = [each for each in named_lives(self._lanes) if each.life.is_alive]
+        if not alive:
+            raise Denied("E160013", "there is no trunk, branch or tag today that git could have")
         is_alone = len({trunk_of(each.life.path) for each in alive}) == 1
         for each in alive:
             yield from self._of_life(each, refs_of(each, is_alone))
