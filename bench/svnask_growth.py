@@ -108,7 +108,8 @@ def found_of(setup: Setup, dumps: list[Path], words: list[str]) -> Found:
     found: Found | None = None
     for _ in range(ATTEMPTS):
         best = best_in_turns(runs, setup.times, PROCESSOR)
-        new = Found(" ".join(words[:2]), *(best[dump] for dump in dumps))
+        verb = " ".join([words[0], *(word for word in words if word.startswith("-"))])
+        new = Found(verb, *(best[dump] for dump in dumps))
         found = found.best(new) if found else new
         if found.is_met:
             break

@@ -14,6 +14,7 @@ from svnask.history.open_history import OpenHistory
 from svnask.paths import joined, rest_below
 from svnask.picture.graph import Graph, Lane, graph_of
 from svnask.projects import TAG, TRUNK, trunk_of
+from svnask.revisions import in_range
 
 # What `git svn` writes at the end of a message, and svn-all-fast-export with --add-metadata.
 ID = re.compile(rb"(?:git-svn-id: \S+@|svn path=\S*; revision=)([0-9]+)")
@@ -123,10 +124,12 @@ class Comparison:
         self._found.add(life.path)
         yield from self._of_files(life, ref)
         reached = self._git.reached(ref)
-        for rev in self._lanes[life].revisions:
-            commits = self._git.commits(rev, self._text_of(rev))
-            if reached.isdisjoint(commit.name for commit in commits) and self._is_shown(life, rev):
-                yield GitDifference("revision", life.path, b"r%d has no commit" % rev)
+        lane = self._lanes[life]
+        for each in lane.lives:
+            for rev in in_range(lane.revisions, each.first, each.last):
+                commits = self._git.commits(rev, self._text_of(rev))
+                if reached.isdisjoint(commit.name for commit in commits) and self._is_shown(each.path, rev):
+                    yield GitDifference("revision", life.path, b"r%d has no commit" % rev)
 
     def _of_files(self, life: Life, ref: bytes) -> Iterator[GitDifference]:
         ours, theirs = files_at(self._history, life.path, life.last), self._git.files(ref)
@@ -138,11 +141,10 @@ class Comparison:
             if len(names) > MOST_NAMES:
                 yield GitDifference("file", life.path, b"%d more are %s" % (len(names) - MOST_NAMES, text))
 
-    def _is_shown(self, life: Life, rev: int) -> bool:
+    def _is_shown(self, path: bytes, rev: int) -> bool:
         """Return whether git has something to show of a revision: a file that was changed, added or deleted."""
-        place = next((each.path for each in self._lanes[life].lives if each.has(rev)), life.path)
         self._history.find_kinds([rev])
-        changes = self._history.changes_below(rev, place)
+        changes = self._history.changes_below(rev, path)
         return any(each.has_text or each.letter != "M" and each.kind == "file" for each in changes)
 
     def _text_of(self, rev: int) -> Text:

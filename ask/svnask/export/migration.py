@@ -142,9 +142,8 @@ def several_in(graph: Graph) -> Iterator[Several]:
     found: dict[int, list[bytes]] = {}
     for lane in graph.lanes:
         for life in lane.lives:
-            for rev in lane.revisions:
-                if life.first < rev <= life.last:
-                    found.setdefault(rev, []).append(life.path)
+            for rev in in_range(lane.revisions, life.first + 1, life.last):
+                found.setdefault(rev, []).append(life.path)
     return (Several(rev, sorted(paths)) for rev, paths in sorted(found.items()) if len(paths) > 1)
 
 
