@@ -104,10 +104,12 @@ def put(database: sqlite3.Connection, table: str, rows: Iterable[tuple[Any, ...]
 
 def fill(history: OpenHistory, database: sqlite3.Connection, first: int) -> None:
     """Write what a database lacks, from a revision on, and all that may be different since."""
+    put(database, "revision", ((rev, *row_of(history, rev)) for rev in range(history.head + 1)))
+    if first > history.head:
+        return
     for each in MADE:
         database.execute(f"DROP {each.partition(' ')[0]} IF EXISTS {each.partition(' ')[2]}")
     database.execute("DELETE FROM source")
-    put(database, "revision", ((rev, *row_of(history, rev)) for rev in range(history.head + 1)))
     for begun in range(first, history.head + 1, PIECE):
         revs = range(begun, min(begun + PIECE, history.head + 1))
         history.find_kinds(revs)
