@@ -116,7 +116,8 @@ class Exported(base.Case):
             self.assertEqual(rows(path, "PRAGMA foreign_key_check"), [])
 
     def test_a_file_is_whole_or_as_it_was(self) -> None:
-        path = self.exported(base.dump_of("branches"))
+        dump = base.content_of("branches")
+        path = self.exported(self.made("part", dump[: dump.index(b"Revision-number: 5\n")]))
         before = path.read_bytes()
         path.unlink()
         for content in (None, before):
