@@ -65,6 +65,18 @@ class Migrations(base.Case):
         for name in (b"a", b"a.b", b"a@b", b"\xc3\xb6", b"1.0-rc1"):
             self.assertIsNone(reason_against(name, False), name)
 
+    def test_rules(self) -> None:
+        """A branch in another place has a rule of its own, before those for all."""
+        folders = [*map(added, (b"trunk", b"branches", b"branches/people", b"vendor"))]
+        copies = [copied(b"branches/people/dora", b"trunk", 1), copied(b"vendor/a+b", b"trunk", 1)]
+        revisions = [Revision(0), Revision(1, folders), *(Revision(rev, [each]) for rev, each in enumerate(copies, 2))]
+        dump = self.made("dump", bytes(Dump(revisions)))
+        rules = base.called(dump, "migration", "--rules", "svn-all-fast-export").output.decode()
+        matches = [line.partition(" ")[2] for line in rules.splitlines() if line.startswith("match ")]
+        self.assertEqual(matches[:3], ["/branches/people/dora/", "/vendor/a\\+b/", "/trunk/"])
+        self.assertEqual(matches[-1], "/")
+        self.assertIn("branch people/dora\n", rules)
+
     def test_authors_and_projects(self) -> None:
         dump = base.dump_of("projects")
         objects: list[dict[str, Any]] = [

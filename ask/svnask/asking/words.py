@@ -12,7 +12,7 @@ from svnask.sources.access import IS_URL, REACHED, split_access
 LONG = {"-r": "--revision", "-c": "--change", "-l": "--limit", "-o": "--output"}
 VALUED = frozenset(
     (*LONG.values(), *REACHED, "--into", "--show-revs", "--depth", "--with-revprop", "--search", "--search-and")
-    + ("--since", "--width", "--height", "--below", "--targets", "--in", "--issue")
+    + ("--since", "--width", "--height", "--below", "--targets", "--in", "--issue", "--rules")
 )
 # Those that take one only after an equals sign.
 OPTIONAL = frozenset(("--ahead-behind",))

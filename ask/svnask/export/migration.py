@@ -10,7 +10,7 @@ from svnask.history.lives import Life
 from svnask.history.open_history import OpenHistory
 from svnask.paths import components
 from svnask.picture.graph import Graph, LaneMerge, graph_of
-from svnask.projects import BRANCH, KINDS, TAG, TRUNK, kind_of, trunk_of
+from svnask.projects import BRANCH, KINDS, TAG, TRUNK, is_named, kind_of, trunk_of
 from svnask.revisions import in_range
 
 # What git does not take in the name of a branch or a tag.
@@ -102,9 +102,8 @@ def projects_of(lives: Iterable[Life]) -> list[Project]:
     """Return the projects of what is there today, by their folders."""
     found: dict[bytes, dict[str, set[bytes]]] = {}
     for life in lives:
-        trunk = trunk_of(life.path)
-        if life.is_alive and trunk is not None:
-            kinds = found.setdefault(trunk.rpartition(b"/")[0] or b"/", {kind: set() for kind in KINDS})
+        if life.is_alive and trunk_of(life.path) is not None:
+            kinds = found.setdefault(project_of(life.path), {kind: set() for kind in KINDS})
             kinds[kind_of(life.path)].add(life.path)
     return [
         Project(path, min(kinds[TRUNK], default=None), len(kinds[BRANCH]), len(kinds[TAG]))
@@ -135,6 +134,44 @@ def reason_against(name: bytes, is_known: bool) -> str | None:
     if any(REFUSED_PART.search(part) for part in name.split(b"/")):
         return "git does not take this name"
     return "a newer one has this name" if is_known else None
+
+
+def rules_of(migration: Migration) -> Iterator[bytes]:
+    """Yield the rules by which svn-all-fast-export makes a repository of each project."""
+    repositories = {each.path: each.path.strip(b"/").replace(b"/", b"-") or b"git" for each in migration.projects}
+    for name in repositories.values():
+        yield b"create repository %s\nend repository\n\n" % name
+    # What stands elsewhere comes first, since the first rule that matches counts.
+    for each in migration.lives:
+        project = project_of(each.life.path)
+        if each.life.is_alive and project in repositories and not is_named(each.life.path):
+            own = each.name[len(project.strip(b"/")) :].lstrip(b"/")
+            yield rule(escaped_in_rule(each.life.path), repositories[project], own)
+    for path, name in repositories.items():
+        top = escaped_in_rule(path.rstrip(b"/"))
+        yield rule(top + b"/trunk", name, b"master")
+        yield rule(top + b"/branches/([^/]+)", name, rb"\1")
+        yield rule(top + b"/tags/([^/]+)", name, rb"refs/tags/\1")
+    # Folders that were copied as a whole.
+    for path in repositories:
+        for below in (b"/", b"/branches/", b"/tags/"):
+            yield b"match %s\n  action recurse\nend match\n\n" % (escaped_in_rule(path.rstrip(b"/")) + below)
+    yield b"match /\nend match\n"
+
+
+def rule(pattern: bytes, repository: bytes, branch: bytes) -> bytes:
+    return b"match %s/\n  repository %s\n  branch %s\nend match\n\n" % (pattern, repository, branch)
+
+
+def escaped_in_rule(path: bytes) -> bytes:
+    """Return a path as a regular expression."""
+    return re.sub(rb"([\\.*+?()\[\]{}^$|])", rb"\\\1", path)
+
+
+def project_of(path: bytes) -> bytes:
+    """Return the folder of the project of a path, which is the root for what is in none by its name."""
+    trunk = trunk_of(path)
+    return b"/" if trunk is None else trunk.rpartition(b"/")[0] or b"/"
 
 
 def several_in(graph: Graph) -> Iterator[Several]:

@@ -5,7 +5,7 @@ from argparse import ArgumentParser, Namespace
 from collections.abc import Iterator
 
 from svnask.asking.verb import Object, Verb, fields_line, object_of_life, shown
-from svnask.export.migration import Migration, migration_of
+from svnask.export.migration import Migration, migration_of, rules_of
 from svnask.history.open_history import OpenHistory
 from svnask.log.plain import author_of
 from svnask.texts import decoded, encoded
@@ -13,9 +13,9 @@ from svnask.texts import decoded, encoded
 
 class MigrationVerb(Verb):
     def arguments(self, parser: ArgumentParser) -> None:
-        parser.add_argument(
-            "--authors-file", action="store_true", help="a file of authors for 'git svn', to be completed"
-        )
+        add = parser.add_mutually_exclusive_group().add_argument
+        add("--authors-file", action="store_true", help="a file of authors for 'git svn', to be completed")
+        add("--rules", choices=["svn-all-fast-export"], help="the rules by which that program makes repositories")
 
     def text(self, history: OpenHistory, given: Namespace) -> Iterator[bytes]:
         found = migration_of(history)
@@ -23,6 +23,8 @@ class MigrationVerb(Verb):
             for author in found.authors:
                 name = author.name or b"(no author)"
                 yield b"%s = %s <%s@example.com>\n" % (name, name, name.replace(b" ", b"."))
+        elif given.rules:
+            yield from rules_of(found)
         else:
             yield from (fields_line(fields) for fields in fields_of_lines(history, found))
 
