@@ -195,7 +195,7 @@ def holders_of_all(history: OpenHistory, patterns: Sequence[bytes], revs: Sequen
         for place in places
     ]
     answers = history.answers(query for each in asked for query in each.queries())
-    changed = ChangedPaths(history)
+    copied = CopiedPaths(history)
     found: dict[int, dict[bytes, str]] = {rev: {} for rev in revs}
     named: dict[bytes, dict[int, list[Naming]]] = {}
     for life, each in zip(alive, asked):
@@ -204,7 +204,7 @@ def holders_of_all(history: OpenHistory, patterns: Sequence[bytes], revs: Sequen
         for rev in own:
             found[rev][life.path] = HISTORY
         if value.ok and len(own) < len(revs):
-            named[life.path] = namings(history, value.value, [rev for rev in revs if rev not in own], changed)
+            named[life.path] = namings(history, value.value, [rev for rev in revs if rev not in own], copied)
     paths = [path for path, namings_of in named.items() if namings_of]
     for path, recorded in zip(paths, Recorded(history).of((path, history.head) for path in paths)):
         for rev, namings_of in named[path].items():
@@ -220,28 +220,29 @@ class Naming(NamedTuple):
     is_whole: bool
 
 
-class ChangedPaths(dict[int, set[bytes]]):
-    """The changed paths of revisions, each found once."""
+class CopiedPaths(dict[int, set[bytes]]):
+    """The paths that revisions made by copies, each found once."""
 
     def __init__(self, history: OpenHistory) -> None:
         super().__init__()
         self._history = history
 
     def __missing__(self, rev: int) -> set[bytes]:
-        found = self[rev] = {change.path for change in self._history.changes(rev)}
+        found = self[rev] = {change.path for change in self._history.changes(rev) if change.source is not None}
         return found
 
 
 def namings(
-    history: OpenHistory, value: dict[bytes, str], revs: Sequence[int], changed: ChangedPaths
+    history: OpenHistory, value: dict[bytes, str], revs: Sequence[int], copied: CopiedPaths
 ) -> dict[int, list[Naming]]:
-    """The sources of which mergeinfo has rising revisions, and which the revision changed, by revisions."""
+    """The sources of which mergeinfo has rising revisions, and which the revision changed and left there."""
     found: dict[int, list[Naming]] = {}
     for source, ranges in value.items():
         tops = frozenset(tops_of(source))
         for run in runs_of(ranges.encode("ascii")):
             for rev in in_range(revs, run.lo, run.hi):
-                if not changed[rev].isdisjoint(tops) or history.changes_below(rev, source):
+                is_changed = history.changes_below(rev, source) or not copied[rev].isdisjoint(tops)
+                if is_changed and history.tree.exists(source, rev):
                     found.setdefault(rev, []).append(Naming(source, run.inheritable))
     return found
 
