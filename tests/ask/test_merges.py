@@ -5,7 +5,7 @@ from collections.abc import Iterator, Sequence
 from typing import NamedTuple, Optional
 from unittest import mock
 
-from dev.dumps import FILE, added, changed, copied, deleted, dump_of, mergeinfo, section
+from dev.dumps import FILE, added, changed, copied, dump_of, mergeinfo
 from svnask import History
 from svnask.branches import questions as branches
 from svnask.engine import talk as engine
@@ -183,20 +183,3 @@ class Operative(base.Case):
         for life, answer in zip(lives, history.ask([Log(life.path, life.last) for life in lives])):
             assert isinstance(answer, Logged)
             self.assertEqual(found[life], [rev for rev in answer.revisions[::-1] if rev >= life.first])
-
-
-class MergedPaths(base.Case):
-    def test_a_revision_was_merged_only_if_it_changed_what_it_left(self) -> None:
-        """Mergeinfo of /branches/b names r2, which made the file, and r4 and r5, which changed folders above it."""
-        value = mergeinfo(b"/trunk/a/f:2-5\n")
-        dump = dump_of(
-            [added(b"trunk"), added(b"trunk/a"), added(b"branches"), added(b"branches/b")],
-            [added(b"trunk/a/f", FILE)],
-            [added(b"trunk/g", FILE)],
-            [changed(b"trunk/a", section({b"x": b"y"}))],
-            [deleted(b"trunk/a")],
-            [changed(b"branches/b", value), added(b"branches/b/f", FILE)],
-        )
-        history = self.history(self.made("dump", dump))
-        held = [[each.how for each in history.contains(rev, [b"branches/b"])] for rev in range(2, 6)]
-        self.assertEqual(held, [["merged"], [], [], []])

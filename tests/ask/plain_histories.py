@@ -1,0 +1,150 @@
+"""What paths of small histories have, by the trees of all revisions, which the second implementation makes."""
+from __future__ import annotations
+
+from itertools import repeat
+from typing import NamedTuple
+
+from model import definitions as plain
+
+
+class Held(NamedTuple):
+    """The revisions that a path has: of its own history, merged, merged in part, and only recorded as merged."""
+
+    own: set[int]
+    merged: set[int]
+    partial: set[int]
+    recorded: set[int]
+
+
+class Plain:
+    """The revisions that a path has, by the trees of a small history."""
+
+    def __init__(self, dump: bytes) -> None:
+        self.records = plain.records_of(dump)
+        self.history = plain.history_of(dump)
+        self.texts: list[set[plain.Path]] = []
+        for block in plain.blocks_of(dump):
+            if b"Revision-number" in block.headers:
+                self.texts.append(set())
+            elif b"Text-content-length" in block.headers:
+                self.texts[-1].add(plain.parts_of(block.headers[b"Node-path"]))
+
+    def is_listed(self, path: plain.Path, rev: int) -> bool:
+        """Return whether `svn log` lists a revision of a path: also one that copied it or a path above it to itself,
+        and each one of the root."""
+        copied = any(record.source and plain.is_below(path, record.path) for record in self.records[rev])
+        return copied or not path or plain.is_operative(self.history, path, rev)
+
+    def has(self, place: plain.Place, source: plain.Path, rev: int) -> bool:
+        try:
+            value = plain.effective(self.history.trees[place.revision], place.path)
+        except plain.Malformed:
+            return False
+        return any(run.low <= rev <= run.high for run in value.get(source, []))
+
+    def is_recorded(self, place: plain.Place, source: plain.Path, rev: int) -> bool:
+        """Return whether the revision by which a path has another one merged changed nothing but mergeinfo there."""
+        trees = self.history.trees
+        before = trees[place.revision][place.path].origin
+        while before is not None and self.has(before, source, rev):
+            place, before = before, trees[before.revision][before.path].origin
+        records = self.records[place.revision]
+        is_made = any(plain.is_below(place.path, each.path) and each.action != b"change" for each in records)
+        at_and_below = [each for each in records if plain.is_below(each.path, place.path)]
+        return (
+            before is not None
+            and not is_made
+            and all(map(self.is_mergeinfo_alone, at_and_below, repeat(place.revision)))
+        )
+
+    def is_mergeinfo_alone(self, record: plain.Record, rev: int) -> bool:
+        if record.action != b"change" or record.path in self.texts[rev]:
+            return False
+        now, before = (self.history.trees[each][record.path].mergeinfo for each in (rev, rev - 1))
+        return now != before
+
+    def held(self, place: plain.Place) -> Held:
+        found = plain.places(self.history.trees, place)
+        held = Held({rev for rev, path in found if path is not None and self.is_listed(path, rev)}, set(), set(), set())
+        last = len(self.history.trees) - 1
+        for source, runs in plain.effective(self.history.trees[place.revision], place.path).items():
+            for run, rev in ((run, rev) for run in runs for rev in range(run.low, min(run.high, last) + 1)):
+                if not plain.is_operative(self.history, source, rev):
+                    continue
+                if self.is_recorded(place, source, rev):
+                    held.recorded.add(rev)
+                else:
+                    (held.merged if run.inheritable else held.partial).add(rev)
+        return held
+
+    def is_copy_alone(self, rev: int) -> bool:
+        """Return whether a revision only copies, adds folders above copies, and deletes what it copies."""
+        actions = {record.path: record.action for record in self.records[rev]}
+        copies = {record.path: record.source.path for record in self.records[rev] if record.source}
+        return bool(copies) and all(
+            path in copies
+            or (action == b"add" and any(plain.is_below(copy, path) for copy in copies))
+            or (action == b"delete" and path in copies.values())
+            for path, action in actions.items()
+        )
+
+    def changed_by(self, rev: int) -> dict[plain.Path, bool]:
+        """Return the paths that a revision changes, and whether each was only changed, and not made or deleted."""
+        found: dict[plain.Path, bool] = {}
+        for record in self.records[rev]:
+            found[record.path] = found.get(record.path, True) and record.action == b"change"
+        return found
+
+    def text(self, path: plain.Path, rev: int) -> bytes | None:
+        entry = self.history.trees[rev].get(path)
+        return None if entry is None else entry.mergeinfo
+
+    def targets(self, rev: int) -> list[plain.Path]:
+        """Return the paths that have other mergeinfo by a revision than where they were before."""
+        found = []
+        for path, is_change in self.changed_by(rev).items():
+            origin = self.history.trees[rev][path].origin if is_change else None
+            if origin is not None and self.text(path, rev) != self.text(*origin):
+                found.append(path)
+        return found
+
+    def brought(self, into: plain.Path, rev: int) -> tuple[set[plain.Path], set[plain.Path]]:
+        """Return the paths below a path that came with what was merged: those that were changed, and others."""
+        before, now = (
+            {
+                (source, each)
+                for source, runs in plain.value_of(self.text(into, at) or b"").items()
+                for run in runs
+                for each in range(run.low, min(run.high, len(self.history.trees) - 1) + 1)
+            }
+            for at in (rev - 1, rev)
+        )
+        modified: set[plain.Path] = set()
+        moved: set[plain.Path] = set()
+        for source, each in now - before:
+            if source in self.history.trees[each] and plain.is_operative(self.history, source, each):
+                for path, is_change in self.changed_by(each).items():
+                    if plain.is_below(path, source):
+                        (modified if is_change else moved).add(into + path[len(source) :])
+        return modified, moved
+
+    def is_merge_alone(self, rev: int) -> bool:
+        """Return whether a revision changes mergeinfo, and else only what came with what it merged."""
+        targets = self.targets(rev)
+        modified: set[plain.Path] = set()
+        moved: set[plain.Path] = set()
+        for each in targets:
+            try:
+                more_changed, more_moved = self.brought(each, rev)
+            except plain.Malformed:
+                continue
+            modified, moved = modified | more_changed, moved | more_moved
+        left = [path for path in self.changed_by(rev) if path in self.texts[rev] or path not in targets]
+        return bool(targets) and all(
+            path in modified or any(plain.is_below(path, other) for other in moved) for path in left
+        )
+
+    def new(self, before: plain.Place, after: plain.Place) -> set[int]:
+        had, has = self.held(before), self.held(after)
+        found = (has.own | has.merged | (has.partial - had.partial)) - had.own - had.merged
+        return {rev for rev in found if rev and not self.is_copy_alone(rev) and not self.is_merge_alone(rev)}

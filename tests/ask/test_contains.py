@@ -1,0 +1,57 @@
+"""`contains`, beside the trees of all revisions, which the second implementation of the definitions makes."""
+from __future__ import annotations
+
+from dev.dumps import FILE, added, changed, deleted, dump_of, mergeinfo, section
+from model import definitions as plain
+from tests.ask import base
+from tests.ask.drawn_repositories import drawn, synchronized
+from tests.ask.plain_histories import Held, Plain
+
+
+def how_held(held: Held, rev: int) -> str | None:
+    """Return the word of `contains` for a revision that a path has, if it has it."""
+    words = {"history": held.own, "merged": held.merged, "merged in part": held.partial, "recorded": held.recorded}
+    return next((word for word, revisions in words.items() if rev in revisions), None)
+
+
+class Contains(base.Case):
+    def check(self, name: str, dump: bytes) -> int:
+        """Compare each revision and each path at most two deep, and return how many are held."""
+        history, known = self.history(self.made(name, dump)), Plain(dump)
+        head = len(known.records) - 1
+        wanted = {}
+        for path in known.history.trees[head]:
+            if 1 <= len(path) <= 2:
+                try:
+                    wanted[plain.printed(path)] = known.held(plain.Place(path, head))
+                except plain.Malformed:
+                    continue
+        count = 0
+        for rev in range(1, head + 1):
+            found = {each.path: each.how for each in history.contains(rev, [b"/*", b"/*/*"])}
+            for printed, held in wanted.items():
+                self.assertEqual(found.get(printed), how_held(held, rev), (name, rev, printed))
+            count += len(found)
+        return count
+
+    def test_drawn_histories(self) -> None:
+        self.assertGreater(sum(self.check(f"dump{seed}", drawn(seed)) for seed in range(12)), 200)
+
+    def test_synchronized_features(self) -> None:
+        for seed in range(2):
+            self.check(f"features{seed}", synchronized(seed))
+
+    def test_a_revision_was_merged_only_if_it_changed_what_it_left(self) -> None:
+        """Mergeinfo of /branches/b names r2, which made the file, and r4 and r5, which changed folders above it."""
+        value = mergeinfo(b"/trunk/a/f:2-5\n")
+        dump = dump_of(
+            [added(b"trunk"), added(b"trunk/a"), added(b"branches"), added(b"branches/b")],
+            [added(b"trunk/a/f", FILE)],
+            [added(b"trunk/g", FILE)],
+            [changed(b"trunk/a", section({b"x": b"y"}))],
+            [deleted(b"trunk/a")],
+            [changed(b"branches/b", value), added(b"branches/b/f", FILE)],
+        )
+        history = self.history(self.made("dump", dump))
+        held = [[each.how for each in history.contains(rev, [b"branches/b"])] for rev in range(2, 6)]
+        self.assertEqual(held, [["merged"], [], [], []])
