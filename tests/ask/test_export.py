@@ -3,7 +3,9 @@ from __future__ import annotations
 
 import json
 import os
+import re
 import sqlite3
+from collections import Counter
 from collections.abc import Iterable
 from contextlib import closing
 from pathlib import Path
@@ -11,6 +13,8 @@ from typing import Any
 from unittest import mock
 
 from svnask.export import database
+
+from dev.tree import DOCS
 from tests.ask import base
 from tests.ask.drawn_repositories import drawn, synchronized
 
@@ -70,6 +74,33 @@ class Exported(base.Case):
         messages = [(each["revision"], each["author"], each["message"]) for each in self.objects(dump, "log")]
         question = "SELECT number, author, message FROM revision WHERE number ORDER BY 1 DESC"
         self.assertEqual(rows(path, question), messages)
+
+    def test_the_questions_of_the_page(self) -> None:
+        dump = base.dump_of("merges")
+        path = self.exported(dump)
+        lanes = {each["lane"]: each["lives"][-1]["path"] for each in self.objects(dump, "graph") if "lives" in each}
+        merges = [each for each in self.objects(dump, "graph") if each["type"] == "merge" and not each["into"]]
+        listed = self.objects(dump, "branches", "--log")
+        wanted: list[list[tuple[Any, ...]]] = [
+            [(each["path"],) for each in self.objects(dump, "contains", "5") if each["how"] == "history"],
+            [(lanes[each["lane"]], each["revision"]) for each in merges if 5 in each["merged"] and not each["lost"]],
+            list(Counter(each["path"] for each in self.objects(dump, "unmerged")).items()),
+            list(Counter(each["author"] for each in self.objects(dump, "log", "trunk/dir/in")).items()),
+            [(each["revision"],) for each in self.objects(dump, *"log --search bob --search-and merge".split())],
+            [
+                (each["author"], each["first"], each["last"])
+                for each in self.objects(dump, "migration")
+                if each["type"] == "author"
+            ],
+            [(each["path"], each["last_change"]) for each in listed],
+            [(each["path"],) for each in listed if each.get("from", {"revision": 5})["revision"] < 5],
+            [(each["revision"], lanes[each["lane"]]) for each in merges if each["is_record_only"]],
+            [(13, each["value"]) for each in self.objects(dump, "propget", "svn:mergeinfo", "branches/two@14")],
+        ]
+        asked = re.findall(r'^\$ sqlite3 merges\.db "(.*)"$', (DOCS / "svnask.md").read_text(), re.MULTILINE)
+        self.assertEqual(len(asked), len(wanted))
+        for question, each in zip(asked, wanted):
+            self.assertEqual(sorted(rows(path, question)), sorted(each), question)
 
     def test_changed_tags(self) -> None:
         for name in base.names():
