@@ -30,13 +30,13 @@ class History(OpenHistory):
         """
         return list(questions.listed_branches(self, patterns))
 
-    def contains(self, rev: int, patterns: Sequence[bytes] = ()) -> list[Holder]:
-        """The branches and tags of today that have a revision, in their history or merged.
+    def contains(self, rev: int, patterns: Sequence[bytes] = (), peg: int | None = None) -> list[Holder]:
+        """The branches and tags that have a revision, in their history or merged: today, or in a peg revision.
 
         >>> history.contains(9)
         [Holder(path=b'/branches/two', how='history')]
         """
-        return list(questions.holders(self, patterns, rev))
+        return list(questions.holders(self, patterns, rev, peg))
 
     def unmerged(self, into: bytes | None = None, patterns: Sequence[bytes] = ()) -> list[Left]:
         """Return what of each branch of today is still to be merged into a path of today, or else into the trunk of its

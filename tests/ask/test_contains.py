@@ -1,6 +1,9 @@
 """`contains`, beside the trees of all revisions, which the second implementation of the definitions makes."""
 from __future__ import annotations
 
+from svnask import History
+from svnask.errors import Denied
+
 from dev.dumps import FILE, added, changed, deleted, dump_of, mergeinfo, section
 from model import definitions as plain
 from tests.ask import base
@@ -16,9 +19,13 @@ def how_held(held: Held, rev: int) -> str | None:
 
 class Contains(base.Case):
     def check(self, name: str, dump: bytes) -> int:
-        """Compare each revision and each path at most two deep, and return how many are held."""
+        """Compare the paths at most two deep, today and in an older revision, and return how many hold a revision."""
         history, known = self.history(self.made(name, dump)), Plain(dump)
         head = len(known.records) - 1
+        self.check_peg(history, known, head // 2, head // 2)
+        return self.check_peg(history, known, head, None)
+
+    def check_peg(self, history: History, known: Plain, head: int, peg: int | None) -> int:
         wanted = {}
         for path in known.history.trees[head]:
             if 1 <= len(path) <= 2:
@@ -28,9 +35,9 @@ class Contains(base.Case):
                     continue
         count = 0
         for rev in range(1, head + 1):
-            found = {each.path: each.how for each in history.contains(rev, [b"/*", b"/*/*"])}
+            found = {each.path: each.how for each in history.contains(rev, [b"/*", b"/*/*"], peg)}
             for printed, held in wanted.items():
-                self.assertEqual(found.get(printed), how_held(held, rev), (name, rev, printed))
+                self.assertEqual(found.get(printed), how_held(held, rev), (history.source.name, peg, rev, printed))
             count += len(found)
         return count
 
@@ -40,6 +47,23 @@ class Contains(base.Case):
     def test_synchronized_features(self) -> None:
         for seed in range(2):
             self.check(f"features{seed}", synchronized(seed))
+
+    def test_a_pattern_may_have_a_peg(self) -> None:
+        """In r8 r5 was merged into /branches/two, and r10 was not made yet."""
+        dump = base.dump_of("merges")
+        words = ["contains", "5", "10", "branches/*@8", "trunk", "branches/two@7"]
+        found = b"r5\t/branches/one@8\tmerged\nr5\t/branches/two@8\tmerged\nr5\t/trunk\thistory\n"
+        self.assertEqual(base.called(dump, *words).output, found)
+        table = b"revision,path,peg,how\n5,/branches/two,8,merged\n5,/trunk,,history\n"
+        self.assertEqual(base.called("--csv", dump, "contains", "5", "branches/two@8", "trunk@").output, table)
+        done = base.called(dump, "contains", "5", "trunk@20")
+        self.assertEqual((done.status, done.said), (1, "svnask: E160006: No such revision 20\n"))
+        self.assertRaises(Denied, self.history(dump).contains, 5, [b"/trunk"], 20)
+
+    def test_an_at_sign_before_another_word_is_a_part_of_a_name(self) -> None:
+        dump = self.made("dump", dump_of([added(b"a@b"), added(b"a@1")]))
+        done = base.called(dump, "contains", "1", "a@b", "a@1@")
+        self.assertEqual(done.output, b"/a@1\thistory\n/a@b\thistory\n")
 
     def test_a_revision_was_merged_only_if_it_changed_what_it_left(self) -> None:
         """Mergeinfo of /branches/b names r2, which made the file, and r4 and r5, which changed folders above it."""

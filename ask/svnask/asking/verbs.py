@@ -16,7 +16,7 @@ HELP = {
     "segments": "where a path was in all revisions, the newest first",
     "heirs": "each path of a later revision that comes from a path, itself or by copies, and the way there",
     "branches": "each life of a branch or a tag: its revisions, where it came from, and its last change",
-    "contains": "the branches and tags of HEAD that have a revision, in their history or merged",
+    "contains": "the branches and tags of HEAD, or of a peg, that have a revision, in their history or merged",
     "unmerged": "what is still to be merged from each branch, as 'svn mergeinfo --show-revs eligible' says",
     "new": "the revisions that one branch or tag has, in its history or merged, and another one lacks",
     "changed-tags": "what happened to tags since they were made: changed, deleted, renamed, made again",

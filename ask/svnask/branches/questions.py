@@ -55,13 +55,13 @@ def place_text(top: bytes) -> str:
     return "in this history" if top == b"/" else f"at or below '{decoded(top)}'"
 
 
-def alive_in(history: OpenHistory, lives: Iterable[Life]) -> list[Life]:
-    """The lives that are there today."""
+def alive_in(history: OpenHistory, lives: Iterable[Life], peg: int | None = None) -> list[Life]:
+    """The lives that are there today, or were in a revision."""
     lives = list(lives)
-    alive = [life for life in lives if life.is_alive]
+    alive = [life for life in lives if (life.is_alive if peg is None else life.has(peg))]
     if lives and not alive:
         history.check()
-        history.notice("of what matches, nothing is there any more")
+        history.notice("of what matches, nothing is there " + ("any more" if peg is None else f"in r{peg}"))
     return alive
 
 
@@ -164,28 +164,33 @@ class HolderQueries(NamedTuple):
 
 
 class Held(NamedTuple):
-    """A revision that a branch or a tag has."""
+    """A revision that a branch or a tag has: today, or as it was in a peg revision."""
 
     rev: int
     holder: Holder
+    peg: int | None
 
 
-def holders(history: OpenHistory, patterns: Sequence[bytes], rev: int) -> Iterator[Holder]:
-    """The branches and tags of today that have a revision of one of them."""
-    return (each.holder for each in holders_of_all(history, patterns, [rev]))
+def holders(history: OpenHistory, patterns: Sequence[bytes], rev: int, peg: int | None = None) -> Iterator[Holder]:
+    """The branches and tags that have a revision: today, or in a peg."""
+    return (each.holder for each in holders_of_all(history, patterns, [rev], peg))
 
 
-def holders_of_all(history: OpenHistory, patterns: Sequence[bytes], revs: Sequence[int]) -> Iterator[Held]:
-    """Yield what the branches and tags of today have of some rising revisions, revision after revision."""
-    alive = alive_in(history, lives_of(history, patterns))
+def holders_of_all(
+    history: OpenHistory, patterns: Sequence[bytes], revs: Sequence[int], peg: int | None = None
+) -> Iterator[Held]:
+    """Yield what branches and tags have of some rising revisions, revision after revision: today, or in a peg."""
+    head = history.head if peg is None else peg
+    for rev in (*revs[:1], *revs[-1:], head):
+        # A script may ask for one that there is not.
+        history.changes(rev)
+    alive = alive_in(history, lives_of(history, patterns), peg)
+    revs = [rev for rev in revs if rev <= head]
     if not revs:
         return
     bounds = (revs[0], revs[-1])
-    for rev in bounds:
-        # A script may ask for one that there is not.
-        history.changes(rev)
     lists_more = log.may_list_more(history)
-    places = [(life.path, history.head) for life in alive]
+    places = [(life.path, head) for life in alive]
     asked = [
         HolderQueries(
             Log(*place, bounds),
@@ -197,20 +202,20 @@ def holders_of_all(history: OpenHistory, patterns: Sequence[bytes], revs: Sequen
     answers = history.answers(query for each in asked for query in each.queries())
     copied = CopiedPaths(history)
     found: dict[int, dict[bytes, str]] = {rev: {} for rev in revs}
-    named: dict[bytes, dict[int, list[Naming]]] = {}
-    for life, each in zip(alive, asked):
+    named: dict[Place, dict[int, list[Naming]]] = {}
+    for place, each in zip(places, asked):
         segments, value = [] if each.where is None else answers[each.where].segments, answers[each.value]
         own = found.keys() & set(log.listed(history, log.Trace(segments, answered(answers[each.log]))))
         for rev in own:
-            found[rev][life.path] = HISTORY
+            found[rev][place[0]] = HISTORY
         if value.ok and len(own) < len(revs):
-            named[life.path] = namings(history, value.value, [rev for rev in revs if rev not in own], copied)
-    paths = [path for path, namings_of in named.items() if namings_of]
-    for path, recorded in zip(paths, Recorded(history).of((path, history.head) for path in paths)):
-        for rev, namings_of in named[path].items():
-            found[rev][path] = how_merged(namings_of, recorded, rev)
+            named[place] = namings(history, value.value, [rev for rev in revs if rev not in own], copied)
+    gaining = [place for place, namings_of in named.items() if namings_of]
+    for place, recorded in zip(gaining, Recorded(history).of(gaining)):
+        for rev, namings_of in named[place].items():
+            found[rev][place[0]] = how_merged(namings_of, recorded, rev)
     for rev in revs:
-        yield from (Held(rev, Holder(life.path, found[rev][life.path])) for life in alive if life.path in found[rev])
+        yield from (Held(rev, Holder(path, found[rev][path]), peg) for path, _ in places if path in found[rev])
 
 
 class Naming(NamedTuple):

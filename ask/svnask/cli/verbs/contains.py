@@ -1,8 +1,10 @@
 """`contains`."""
 from __future__ import annotations
 
+import heapq
 from argparse import ArgumentParser, Namespace
-from collections.abc import Iterator, Sequence
+from collections.abc import Iterable, Iterator, Sequence
+from operator import attrgetter
 
 from svnask.asking.verb import Object, Verb, add_log, add_patterns, fields_line, fields_of_log, object_of_log
 from svnask.branches import questions as branches
@@ -13,6 +15,7 @@ from svnask.history.targets import DATE, NUMBER, known, pattern_of, range_of, re
 from svnask.log.forms import SHOWN, as_wanted
 from svnask.log.plain import author_of, date_of
 from svnask.log.search import Glob, is_found
+from svnask.paths import split_peg
 from svnask.texts import decoded
 
 OF_RANGES = "the revisions from LO to HI; may be repeated"
@@ -21,11 +24,11 @@ OF_IN = "the same as a PATTERN, also where it looks like a revision; may be repe
 
 
 class ContainsVerb(Verb):
-    columns = ("revision", "path", "how")
+    columns = ("revision", "path", "peg", "how")
 
     def arguments(self, parser: ArgumentParser) -> None:
         parser.add_argument("revision", metavar="REV", nargs="?", help="a number, HEAD or a {DATE}; others may follow")
-        add_patterns(parser, "**")
+        add_patterns(parser, "with @PEG as of that revision; **")
         parser.add_argument(
             "-r", "--revision", dest="ranges", metavar="LO:HI", action="append", default=[], help=OF_RANGES
         )
@@ -33,7 +36,7 @@ class ContainsVerb(Verb):
         parser.add_argument("--in", dest="inside", metavar="PATTERN", action="append", default=[], help=OF_IN)
         add_log(parser)
 
-    def held(self, history: OpenHistory, given: Namespace) -> Iterator[branches.Held]:
+    def held(self, history: OpenHistory, given: Namespace) -> Iterable[branches.Held]:
         """Yield each revision that is asked about with each path that has it."""
         words, patterns = split_words([*filter(None, [given.revision]), *given.patterns])
         if not words and not given.ranges and not given.search:
@@ -45,8 +48,11 @@ class ContainsVerb(Verb):
             lo, hi = sorted(known(history, rev) for rev in range_of(history, text))
             found.update(range(max(lo, 1), hi + 1))
         found.update(searched(history, [glob_of(word) for word in given.search]))
-        asked = [pattern_of(history, pattern) for pattern in (*patterns, *given.inside)]
-        return branches.holders_of_all(history, asked, sorted(found))
+        tables = (
+            branches.holders_of_all(history, asked, sorted(found), peg)
+            for peg, asked in patterns_by_peg(history, [*patterns, *given.inside]).items()
+        )
+        return heapq.merge(*tables, key=attrgetter("rev"))
 
     def is_about_one(self, given: Namespace) -> bool:
         words, _ = split_words([*filter(None, [given.revision]), *given.patterns])
@@ -54,14 +60,29 @@ class ContainsVerb(Verb):
 
     def text(self, history: OpenHistory, given: Namespace) -> Iterator[bytes]:
         is_one = self.is_about_one(given)
-        for rev, (path, how) in self.held(history, given):
+        for rev, (path, how), peg in self.held(history, given):
             named = [] if is_one else [b"r%d" % rev]
-            yield fields_line([*named, path, how.encode("ascii"), *fields_of_log(history, rev, given)])
+            place = path if peg is None else b"%s@%d" % (path, peg)
+            yield fields_line([*named, place, how.encode("ascii"), *fields_of_log(history, rev, given)])
 
     def objects(self, history: OpenHistory, given: Namespace) -> Iterator[Object]:
-        for rev, (path, how) in self.held(history, given):
+        for rev, (path, how), peg in self.held(history, given):
             about = object_of_log(history, rev) if given.log else {}
-            yield {"path": decoded(path), "how": how, "revision": rev, **about}
+            as_of = {} if peg is None else {"peg": peg}
+            yield {"path": decoded(path), **as_of, "how": how, "revision": rev, **about}
+
+
+def patterns_by_peg(history: OpenHistory, texts: Sequence[str]) -> dict[int | None, list[bytes]]:
+    """Return the patterns that users name, by their peg revisions. Without any pattern, that is all of today."""
+    found: dict[int | None, list[bytes]] = {}
+    for text in texts:
+        pattern, peg = split_peg(text)
+        if peg and not is_revision(peg):
+            pattern, peg = text, ""
+        found.setdefault(known(history, revision_of(history, peg)) if peg else None, []).append(
+            pattern_of(history, pattern)
+        )
+    return found or {None: []}
 
 
 def split_words(words: Sequence[str]) -> tuple[list[str], list[str]]:
