@@ -26,8 +26,9 @@ PAGES = [
 # fmt: on
 CONSOLE = re.compile(r"^```console\n(.*?)^```$", re.MULTILINE | re.DOTALL)
 EXAMPLE = re.compile(r"^\.EX\n(.*?)^\.EE$", re.MULTILINE | re.DOTALL)
-# A command of GNU parallel, which not every machine has. Only a block with one may need what such a block made.
-PARALLEL = re.compile(r"^\$ parallel ", re.MULTILINE)
+# Commands that not every machine has, with the first words of their versions. moreutils has another `parallel`. Only a
+# block with one of them may need what such a block made.
+OPTIONAL = {"parallel": "GNU parallel ", "jq": "jq-"}
 # Commands of the examples. REPO is the repository of interop/branches.dump, and URL and that of the example host
 # are that of interop/merges.dump. All hosts are this machine.
 TOOLS = {
@@ -132,15 +133,19 @@ class ShownCommands(ProgramTest):
         return (done.output + done.errors).decode("utf-8", "replace")
 
     def check_commands(self, root: Path) -> None:
-        """Run the commands of all pages, but for those of GNU parallel where that is not installed: moreutils has
-        another command of this name."""
+        """Run the commands of all pages, but for blocks with a command that is not installed."""
         environment = self.environment_of(root)
-        has_parallel = self.output_of("parallel --version", root, environment).startswith("GNU parallel")
+        missing = [
+            name
+            for name, version in OPTIONAL.items()
+            if not self.output_of(f"{name} --version", root, environment).startswith(version)
+        ]
         for page in PAGES:
             for block in blocks_of(page):
-                if PARALLEL.search(block) and not has_parallel:
+                lacking = [name for name in missing if re.search(rf"^\$ (?:.* \| )?{name} ", block, re.MULTILINE)]
+                if lacking:
                     with self.subTest(page):
-                        self.skipTest("GNU parallel is not installed")
+                        self.skipTest(f"{lacking[0]} is not installed")
                     continue
                 self.check_all(
                     Check(f"{page}: {line}", wanted, self.output_of(line, root, environment))
