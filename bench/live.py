@@ -28,7 +28,7 @@ REVISIONS, PIECES, TEN = 120000, 10000, 10
 # How many pieces are looked at, at the beginning and at the end, and how many questions of each kind.
 TIMED = 200
 VERBS = ("log", "mergeinfo", "segments")
-MOST_OF_PIECE, MOST_OF_AT_ONCE = 20, 1.75
+MOST_OF_PIECE, MOST_OF_AT_ONCE = 20, 1.5
 
 
 class Talk:

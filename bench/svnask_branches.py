@@ -22,7 +22,7 @@ VERBS = {
     "contains 1000": 3.0,
     "changed-tags /branches/*": 3.0,
     "graph": 12.0,
-    "unmerged": 6.0,
+    "unmerged": 4.2,
     "log trunk": 3.0,
     **{f"log -g{options} trunk": 4.0 for options in ("", " -q", " -v", " --xml", " --xml -v")},
 }

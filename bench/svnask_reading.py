@@ -18,7 +18,7 @@ from dev.running import Failed, Measured
 from dev.tree import EXAMPLES, ROOT
 
 MIX, REVISIONS, LINES = replace(RELEASES, records=20, body=(0, 200), releases=6, width=100), 20000, 10000000
-MOST_OF_GREP, MOST_OF_PROGRAM, MOST_OF_LINES, MOST_MEGABYTES = 20.0, 2.5, 3.5, 100.0
+MOST_OF_GREP, MOST_OF_PROGRAM, MOST_OF_LINES, MOST_MEGABYTES = 15.0, 2.5, 3.0, 100.0
 FIRST, LATER, MODULE = "svnask, the first question", "svnask, the same as a later question", "the module, many logs"
 GREP, ALONE, MANY = "`grep -c ^Node-path`", "svnhist, the log of the trunk", "svnhist, many logs"
 
