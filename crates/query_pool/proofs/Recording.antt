@@ -24,13 +24,6 @@ module _ {X : Type 0} (gives : ℕ → X → Type 0) where
   abbrev Given : ℕ × X → Type 0
   Given each = gives each.0 each.1
 
-  -- nothing was taken, and there is no result
-  pub Records-none : (taken : List ℕ) → taken ≡ [] → Records gives taken []
-  Records-none taken none = record {
-    places = λ place. sym (ap (times place) none);
-    given = All-nil Given;
-  }
-
   All-cut : (front back : List (ℕ × X)) → All Given (front ++ back) → All Given front × All Given back
   All-cut [] back all = (All-nil Given, all)
   All-cut (each ∷ front) back all =
@@ -116,7 +109,3 @@ module _ {X : Type 0} (gives : ℕ → X → Type 0) where
     given-taken =
         let cut = All-cut own others records.given in
         subst (All Given) handed (All-append Given others own cut.1 cut.0)
-
--- a place that was taken was put
-pub was_put : (before v w : Tally) (place : ℕ) → v.puts ≡ before.puts → Takes v (place ∷ []) w → place < before.puts
-was_put before v w place same takes = subst (λ n. place < n) same (All-head (λ k. k < v.puts) place [] takes.were_put)

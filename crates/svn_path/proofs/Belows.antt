@@ -1,10 +1,9 @@
 -- One path at or under another, where the test of components tells which are equal.
-use Rattle.std.proofs.Common.{◌≡◌, ◌↔◌, ℕ, ◌≤◌, Bool, ◌&&◌, true, false, cond, List, [], ◌∷◌, ◌++◌, length, drop, Option, Some, None, is_some, IsTrue, bytes_eq, inl, inr, refl, sym, ap, subst, ◌∙◌, arith, length-append}
+use Rattle.std.proofs.Common.{◌≡◌, ◌↔◌, ℕ, ◌≤◌, Bool, ◌&&◌, true, false, cond, List, [], ◌∷◌, ◌++◌, length, drop, Option, Some, None, is_some, IsTrue, inl, inr, refl, sym, ap, subst, ◌∙◌, arith, length-append}
 use Rattle.std.proofs.lemmas.Bool.{cases_Bool}
 use Rattle.std.proofs.lemmas.Bool.Decides.{Decides-eqb}
 use Rattle.std.proofs.lemmas.List.{append-nil}
 use Rattle.std.proofs.lemmas.List.Prefix.{front_rest}
-use Rattle.std.proofs.lemmas.Slice.Eq.{bytes_eq-Decides}
 use Rattle.std.specs.Bool.{Decides}
 use Rattle.std.specs.List.{starts_with}
 use Rattle.svn_path.specs.Below.{below, is_below, same_path, parent_of}
@@ -107,10 +106,6 @@ IsSame-same_name =
       true_is = λ a b is. let numbered : ℕ → NameId = λ number. record { 0 = number } in ap numbered ((Decides-eqb a.0 b.0).0 is);
       itself = λ a. (Decides-eqb a.0 a.0).1 refl;
     }
-
--- and components by their bytes
-pub IsSame-bytes_eq : IsSame bytes_eq
-IsSame-bytes_eq = record { true_is = λ a b. (bytes_eq-Decides a b).0; itself = λ a. (bytes_eq-Decides a a).1 refl }
 
 -- ---- the path above
 

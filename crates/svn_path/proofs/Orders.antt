@@ -1,31 +1,16 @@
 -- What the comparisons of paths say of lists of numbers.
-use Rattle.std.proofs.Common.{◌≡◌, ◌↔◌, Bool, true, false, cond, ◌&&◌, List, [], ◌∷◌, sym, ◌∙◌, refl}
-use Rattle.std.proofs.lemmas.Map.Lookups.{CmpEqualImpliesEq}
+use Rattle.std.proofs.Common.{◌≡◌, ◌↔◌, Bool, true, false, cond, ◌&&◌, List, [], ◌∷◌, ◌∙◌, refl}
 use Rattle.std.proofs.lemmas.Slice.Eq.{slice_eq-Decides}
 use Rattle.std.specs.Bool.{Decides}
-use Rattle.std.specs.Cmp.{Equal-is}
-use Rattle.std.specs.Cmp.Lexicographic.{pointwise, slice_cmp}
-use Rattle.std.specs.declared.cmp.Ordering.TheVariants.{Equal}
+use Rattle.std.specs.Cmp.Lexicographic.{pointwise}
 use Rattle.svn_path.specs.Below.{same_path}
 use Rattle.svn_path.specs.Path.{same_name}
-use Rattle.svn_path.specs.PathOrder.{name_cmp, paths_ties}
 use Rattle.svn_path.specs.declared.names.NameId.{NameId}
 use Rattle.svn_path.proofs.Belows.{IsSame-Decides, IsSame-same_name}
 
 -- `==` holds of one list of numbers alone
 pub paths_eq-Decides : (p q : List NameId) → Decides (pointwise same_name p q) (p ≡ q)
 paths_eq-Decides p q = slice_eq-Decides (IsSame-Decides IsSame-same_name) p q _ refl
-
--- and the order ties no two
-pub paths_cmp-Equal : (p q : List NameId) → (slice_cmp name_cmp p q ≡ Equal) ↔ (p ≡ q)
-paths_cmp-Equal p q =
-    let ties = paths_ties p q in
-    let equal = Equal-is (slice_cmp name_cmp p q) in
-    (λ tied. (paths_eq-Decides p q).0 (ties ∙ equal.1 tied), λ is. equal.0 (sym ties ∙ (paths_eq-Decides p q).1 is))
-
--- paths of which none comes first are equal, in the word that std's lemmas on maps take
-pub exact_paths : CmpEqualImpliesEq (slice_cmp name_cmp)
-exact_paths p q = (paths_cmp-Equal p q).0
 
 -- `==` is `same_path`
 pub pointwise-same_path : {C : Type 0} (same : C → C → Bool) (p q : List C) → pointwise same p q ≡ same_path same p q

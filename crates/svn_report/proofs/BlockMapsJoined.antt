@@ -17,7 +17,6 @@ use Rattle.block_map.specs.Look.{Found, at, absent, resolved}
 use Rattle.block_map.specs.LookThrough.{look_through}
 use Rattle.block_map.specs.Map.{IsMapOf, MapValue, hi_of, nodes_for, records_at_ticks}
 use Rattle.block_map.proofs.LooksThrough.{look_from-within, look_through-append, look_through-none}
-use Rattle.block_map.proofs.MapsOfDumps.{IsMapOf-built}
 use Rattle.par_scan.specs.Chain.{IsChain, IsJoined, Meet, act_all}
 use Rattle.par_scan.specs.Weightless.{no_weight}
 use Rattle.svn_report.specs.Blocks.{AreBorders, IsMapOfBlock}
@@ -228,15 +227,3 @@ pub few-nodes_of_joined : (ends : List ℕ) (all : List NodeRecord) (borders : L
     → joined.nodes ≤ nodes_for (records_at_ticks ends all)
 few-nodes_of_joined ends all borders maps joined is are len few j =
     omega (arith, nodes-joined maps joined j, few-nodes maps few, nodes_for-maps ends all 0 borders maps is are len)
-
--- where there is no block there is no record
-pub IsMapOf-none : (dump : DumpValue) (borders : List ℕ) (map : MapValue) → AreBorders 0 (length dump.records) borders → length borders ≡ 1
-    → map.lo ≡ 0 → map.records ≡ [] → IsMapOf dump map
-IsMapOf-none dump borders map is one lo none = IsMapOf-built dump map lo (none ∙ ap (records_at_ticks (ends_of dump.counts)) (sym (by dump.records empty)))
-  where
-    empty : length dump.records ≡ 0
-    empty = sym is.ends ∙ ap (λ n. get_or borders (n - 1) 0) one ∙ is.starts
-
-    by : (records : List NodeRecord) → length records ≡ 0 → records ≡ []
-    by [] zero_is = refl
-    by (each ∷ records) zero_is = absurd (omega (arith, zero_is))

@@ -1,11 +1,9 @@
 -- A map of a dump that has grown, and what is known of its records.
-use Rattle.std.proofs.Common.{◌≡◌, ℕ, ◌+◌, ◌<◌, ◌≤◌, All, List, [], ◌++◌, None, Some, drop, length, sym, ap, subst, ◌∙◌, append-nil, arith, length-append}
+use Rattle.std.proofs.Common.{◌≡◌, ℕ, ◌+◌, ◌<◌, ◌≤◌, List, [], ◌++◌, None, Some, drop, length, sym, ap, subst, ◌∙◌, append-nil, arith, length-append}
 use Rattle.std.specs.List.{slice_get}
 use Rattle.std.proofs.lemmas.List.{drop_at, length-map}
-use Rattle.std.proofs.lemmas.List.Elements.{All-drop, All-weaker}
 use Rattle.svn_path.specs.Path.{same_name}
-use Rattle.svn_dump.specs.Dump.{DumpValue, IsDump, IsRecordOf, history_view, record_view}
-use Rattle.svn_dump.specs.Record.{most_components}
+use Rattle.svn_dump.specs.Dump.{DumpValue, IsDump, history_view, record_view}
 use Rattle.svn_dump.specs.State.{fault_of_next_record}
 use Rattle.svn_dump.specs.declared.record.NodeRecord.{NodeRecord}
 use Rattle.svn_dump.proofs.Lists.{slice_get-second}
@@ -33,12 +31,6 @@ module _ {dump : DumpValue} {index : IndexValue} {map : MapValue} (before : AreO
       ap (λ n. slice_get dump.records (n + index)) whole ∙ ap (λ records. slice_get records (length before.old.records + index)) before.grew.records.1
       ∙ slice_get-second before.old.records more index each (ap (λ records. slice_get records index) (sym rest-grown) ∙ at) in
       subst (λ tick. HasSourceBefore (ends_of dump.counts) tick each.act) (omega arith) (HaveSources-dump dump is (hi_of map + index) each there)
-
-  -- their paths are not too long
-  pub short-grown : IsDump dump → All (λ (each : NodeRecord). length each.path ≤ most_components) (drop (hi_of map) dump.records)
-  short-grown is =
-      All-drop (λ (each : NodeRecord). length each.path ≤ most_components) (hi_of map) dump.records
-      (All-weaker (IsRecordOf dump) (λ each. length each.path ≤ most_components) (λ each of. of.length) dump.records is.records)
 
   -- the map is one of the first records
   pub first-grown : IsMapOfFirstRecords dump map

@@ -20,10 +20,6 @@ MayAsk-nothing_seen memo id text before known = absurd (none-some before (sym (t
 pub MayAsk-value : (values : List (List ℕ)) (seen : SeenValue) (id : ℕ) (text : List ℕ) → AsksOnly values seen → slice_get values id ≡ Some text → MayAsk seen id text
 MayAsk-value values seen id text only of_id before known = same_Some before text (sym (only id before known) ∙ of_id)
 
--- and again, with the same text
-pub MayAsk-again : (old : SeenValue) (id : ℕ) (text : List ℕ) (new : SeenValue) → IsAnswered old id text new → MayAsk new id text
-MayAsk-again old id text new answered before known = same_Some before text (sym known ∙ answered.known)
-
 texts-set : (P : ℕ → List ℕ → Type 0) (texts : List (Option (List ℕ))) (at : ℕ) (text : List ℕ) → P at text → ((id : ℕ) (t : List ℕ) → option_flatten (slice_get texts id) ≡ Some t → P id t) → (id : ℕ) (t : List ℕ) → option_flatten (slice_get (slice_set texts at (Some text)) id) ≡ Some t → P id t
 texts-set P [] at text here others id t known = others id t known
 texts-set P (first ∷ texts) zero text here others zero t known = subst (P zero) (same_Some text t known) here
