@@ -64,8 +64,8 @@ impl Map {
         ensures nodes { IfOk result (λ map. map.nodes ≤ nodes_for map.records) }
 
         // Of the first records of a dump it is a map that shows what the records of the dump say.
-        ensures of_first { (dump : DumpValue) (more : List NodeRecord) → start ≡ 0 → ends.now ≡ ends_of dump.counts
-            → dump.records ≡ records.now ++ more → IfOk result (IsMapOfFirstRecords dump) }
+        ensures of_first { (dump : DumpValue) (more : List NodeRecord) → start ≡ 0
+            → ends.now ≡ ends_of dump.counts → dump.records ≡ records.now ++ more → IfOk result (IsMapOfFirstRecords dump) }
     {
         let trees = extended(Trees::new(alloc, start), records, ends)?;
         let blocks = Vec::new(alloc);

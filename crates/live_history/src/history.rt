@@ -80,14 +80,15 @@ impl History {
             → IsGrown before size (stream ahead.old (C.input client.old)) (stream ahead.new (C.input client.new))
             grown) }
         ensures whole { IfOk result (λ grown. IsWholeHistory grown.repo) }
-        ensures few { IfOk result (λ grown. grown.paused.count + room ahead.new ≤ self.paused.count + room ahead.old) }
+        ensures few { IfOk result (λ next. next.paused.count + room ahead.new ≤ self.paused.count + room ahead.old) }
         ensures room { IfOk result (λ grown. room ahead.new ≤ room ahead.old) }
         ensures near { IfOk result (λ grown. length ahead.new.unread ≤ most_bytes) }
         ensures error { IfErr result (λ e. (before : List ℕ) → IsHistoryOf before self
             → IsPieceEnd before size (stream ahead.old (C.input client.old)) (C.input client.new) e) }
         ensures unfailed { OnOk result ((C.input client.new).failures ≡ (C.input client.old).failures) }
         ensures unended { OnOk result ((C.input client.new).ends ≡ (C.input client.old).ends) }
-        ensures memory { IsErrOf result (Run Memory) → (C.input client.new).failures ≡ (C.input client.old).failures }
+        ensures memory { IsErrOf result (Run Memory)
+            → (C.input client.new).failures ≡ (C.input client.old).failures }
         ensures open { IsErrOf result (Run Memory) → (C.input client.new).ends ≡ (C.input client.old).ends }
         ensures output { C.output client.new ≡ C.output client.old }
         ensures first { C.first client.new ≡ C.first client.old }

@@ -104,8 +104,9 @@ impl ReadAhead {
         ensures error { IfErr result
             (λ e. IsReadEnd (stream self.old (C.input client.old)) (C.input client.new) e self.old.unread) }
         ensures unfailed { OnOk result ((C.input client.new).failures ≡ (C.input client.old).failures) }
-        ensures unended { IfOk result (λ count. 0 < count → (C.input client.new).ends ≡ (C.input client.old).ends) }
-        ensures memory { IsErrOf result (Run Memory) → (C.input client.new).failures ≡ (C.input client.old).failures }
+        ensures unended { IfOk result (λ size. 0 < size → (C.input client.new).ends ≡ (C.input client.old).ends) }
+        ensures memory { IsErrOf result (Run Memory)
+            → (C.input client.new).failures ≡ (C.input client.old).failures }
         ensures open { IsErrOf result (Run Memory) → (C.input client.new).ends ≡ (C.input client.old).ends }
         ensures output { C.output client.new ≡ C.output client.old }
         ensures first { C.first client.new ≡ C.first client.old }
@@ -136,12 +137,14 @@ impl ReadAhead {
         ensures end { IfOk result (λ more. IsFalse more
             → AreLast (stream self.old (C.input client.old)) (C.input client.new) []) }
         ensures room { IfOk result (λ more. room self.new ≤ room self.old) }
-        ensures near { IfOk result (λ _. length self.old.unread ≤ most_bytes → length self.new.unread ≤ most_bytes) }
+        ensures near { IfOk result
+            (λ _. length self.old.unread ≤ most_bytes → length self.new.unread ≤ most_bytes) }
         ensures error { IfErr result
             (λ e. IsReadEnd (stream self.old (C.input client.old)) (C.input client.new) e []) }
         ensures unfailed { OnOk result ((C.input client.new).failures ≡ (C.input client.old).failures) }
-        ensures unended { IfOk result (λ more. IsTrue more → (C.input client.new).ends ≡ (C.input client.old).ends) }
-        ensures memory { IsErrOf result (Run Memory) → (C.input client.new).failures ≡ (C.input client.old).failures }
+        ensures unended { IfOk result (λ any. IsTrue any → (C.input client.new).ends ≡ (C.input client.old).ends) }
+        ensures memory { IsErrOf result (Run Memory)
+            → (C.input client.new).failures ≡ (C.input client.old).failures }
         ensures open { IsErrOf result (Run Memory) → (C.input client.new).ends ≡ (C.input client.old).ends }
         ensures output { C.output client.new ≡ C.output client.old }
         ensures first { C.first client.new ≡ C.first client.old }
@@ -182,7 +185,8 @@ impl ReadAhead {
         ensures unfailed { OnOk result ((C.input client.new).failures ≡ (C.input client.old).failures) }
         ensures unended { IfOk result
             (λ found. IfSome found (λ _. (C.input client.new).ends ≡ (C.input client.old).ends)) }
-        ensures memory { IsErrOf result (Run Memory) → (C.input client.new).failures ≡ (C.input client.old).failures }
+        ensures memory { IsErrOf result (Run Memory)
+            → (C.input client.new).failures ≡ (C.input client.old).failures }
         ensures open { IsErrOf result (Run Memory) → (C.input client.new).ends ≡ (C.input client.old).ends }
         ensures output { C.output client.new ≡ C.output client.old }
         ensures first { C.first client.new ≡ C.first client.old }

@@ -65,7 +65,7 @@ pub(crate) fn reply_up_to_piece<R: Threads + Wait + Sync, C: Client>(
         (C.input client.new) (C.output client.new) e) }
     ensures kept { IfErr result (KeepsOutput (C.output client.old) (C.output client.new)) }
     ensures unfailed { OnOk result ((C.input client.new).failures ≡ (C.input client.old).failures) }
-    ensures unended { IfOk result (λ next. IfSome next (λ _. (C.input client.new).ends ≡ (C.input client.old).ends)) }
+    ensures unended { IfOk result (λ now. IfSome now (λ _. (C.input client.new).ends ≡ (C.input client.old).ends)) }
     ensures memory { IsErrOf result (Run Memory) → (C.input client.new).failures ≡ (C.input client.old).failures }
     ensures open { IsErrOf result (Run Memory) → (C.input client.new).ends ≡ (C.input client.old).ends }
     ensures sent_all { OnOk result ((C.output client.new).failures ≡ (C.output client.old).failures) }

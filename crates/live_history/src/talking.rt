@@ -103,7 +103,8 @@ fn take_turns<R: Threads + Wait + Sync, C: Client>(
     ensures ok { OnOk result ((state : TalkState) → IsHistoryOf state.dump history → state.answered ≡ 0
         → AreAllReplied state (stream ahead.old (C.input client.old)) (C.output client.old).gone (C.input client.new)
         (C.output client.new)) }
-    ensures flushed { OnOk result (IsTrue (C.output client.old).is_flushed → IsTrue (C.output client.new).is_flushed) }
+    ensures flushed { OnOk result
+        (IsTrue (C.output client.old).is_flushed → IsTrue (C.output client.new).is_flushed) }
     ensures sound { OnOk result
         (IsFalse (C.output client.old).has_failed → IsFalse (C.output client.new).has_failed) }
     ensures error { IfErr result (λ e. (state : TalkState) → IsHistoryOf state.dump history → state.answered ≡ 0
@@ -172,7 +173,7 @@ fn take_piece<R: Threads + Wait + Sync, C: Client>(
         (C.output client.new) e) }
     ensures kept { IfErr result (KeepsOutput (C.output client.old) (C.output client.new)) }
     ensures unfailed { OnOk result ((C.input client.new).failures ≡ (C.input client.old).failures) }
-    ensures unended { IfOk result (λ next. IfSome next (λ _. (C.input client.new).ends ≡ (C.input client.old).ends)) }
+    ensures unended { IfOk result (λ now. IfSome now (λ _. (C.input client.new).ends ≡ (C.input client.old).ends)) }
     ensures memory { IsErrOf result (Run Memory) → (C.input client.new).failures ≡ (C.input client.old).failures }
     ensures open { IsErrOf result (Run Memory) → (C.input client.new).ends ≡ (C.input client.old).ends }
     ensures sent_all { OnOk result ((C.output client.new).failures ≡ (C.output client.old).failures) }

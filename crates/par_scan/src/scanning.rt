@@ -146,7 +146,7 @@ fn join_parts<R: Threads + Sync, M: Acts>(
     parts: &[Vec<M>],
 ) -> Result<Vec<Vec<M>>, AllocError>
     requires len { length before.now + 1 ≡ length parts.now }
-    requires fits { (part : ℕ) → part < length before.now → FitsAt M.begin M.end M.weight before.now parts.now part }
+    requires fits { (at : ℕ) → at < length before.now → FitsAt M.begin M.end M.weight before.now parts.now at }
     ensures len { IfOk result (λ joined. length joined.items ≡ length before.now) }
     ensures each { IfOk result (λ joined. (part : ℕ) (d : _) → part < length before.now
         → IsAfterAt M.act M.begin M.end before.now parts.now part (slice_index_or joined.items part d).items) }

@@ -21,7 +21,8 @@ impl<'v, 'p> HeldMergeinfo<'v, 'p> {
     /// What a path holds of a value, given what it has below the path of the value. Nothing is inherited of the empty
     /// value, so what is below does not matter there.
     pub(crate) fn new(value: &'v MergeInfo, rest: &'p [NameId]) -> Self
-        ensures value { (names : _) → held_value names result ≡ own_or_below (components_of names rest.now) value.now }
+        ensures value { (names : _)
+            → held_value names result ≡ own_or_below (components_of names rest.now) value.now }
         ensures held { (names : _) → IsPathOf names rest.now → IsHeldIn names result }
     {
         let rest = if value.is_empty() { &[] } else { rest };

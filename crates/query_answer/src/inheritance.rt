@@ -74,7 +74,7 @@ pub(crate) fn rest_below(
 ) -> Result<Vec<u8>, AllocError>
     requires names { IsPathOf repo.now.names path.now }
     requires depth { depth ≤ length path.now }
-    ensures text { IfOk result (λ rest. rest.items ≡ path_text (drop depth (components_of repo.now.names path.now))) }
+    ensures text { IfOk result (λ end. end.items ≡ path_text (drop depth (components_of repo.now.names path.now))) }
     ensures printed { IfOk result (λ rest. IsPrintedPath rest.items) }
 {
     let mut rest = Vec::with_capacity(alloc, USUAL_PATH_LENGTH)?;

@@ -69,7 +69,7 @@ impl Batch<'_, '_> {
     ) -> Result<Vec<Vec<u8>>, AllocError>
         requires some_worker { 0 < workers }
         requires few_workers { workers ≤ most_workers }
-        requires gate { (place : ℕ) → place < length self.now.lines.now → G.watches gate.now (self.now.first + place) }
+        requires gate { (at : ℕ) → at < length self.now.lines.now → G.watches gate.now (self.now.first + at) }
         ensures texts { IfOk result (λ texts. map (λ text. text.items) texts.items
             ≡ texts_to_batch self.now.repo.now self.now.first self.now.lines.now) }
         ensures joined { IfOk result (λ texts. flat_map (λ text. text.items) texts.items
@@ -105,7 +105,7 @@ pub fn answer_batch<'r, R: Threads + Wait + Sync>(
     requires numbered { first + length lines.now < 2 ^ 32 }
     requires some_worker { 0 < workers }
     requires few_workers { workers ≤ most_workers }
-    ensures { IfOk result (λ texts. map (λ text. text.items) texts.items ≡ texts_to_batch repo.now first lines.now) }
+    ensures { IfOk result (λ texts. map (λ one. one.items) texts.items ≡ texts_to_batch repo.now first lines.now) }
 {
     let batch = Batch {
         alloc,

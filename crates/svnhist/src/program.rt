@@ -124,7 +124,8 @@ fn answer<R: RandomSource + Threads + Wait + Sync, F: Open + Pull, I: Pull>(
     ensures unread { (texts_of arguments ≡ Some []) ⊎ (input.new ≡ input.old) }
     ensures fails_once { (I.state input.new).failures ≤ (I.state input.old).failures + 1 }
     ensures no_texts { IfErr arguments (λ e. error_kind e ≢ ErrorKind.OutOfMemory → IsOkAnd result IsNone) }
-    ensures no_memory { IfErr arguments (λ e. error_kind e ≡ ErrorKind.OutOfMemory → IsErrOf result RunError.Memory) }
+    ensures no_memory { IfErr arguments
+        (λ e. error_kind e ≡ ErrorKind.OutOfMemory → IsErrOf result RunError.Memory) }
 {
     match arguments {
         Ok(texts) if texts.is_empty() => answer_input(rt, alloc, input),

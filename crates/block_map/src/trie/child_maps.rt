@@ -120,7 +120,7 @@ impl ChildMaps {
         ensures more { Extends self.old self.new }
         ensures within { IfOk result (λ after. after.0 ≤ length self.new) }
         ensures exact { IfOk result (HasOne self.new bits node) }
-        ensures nodes { (count : _) → HaveNodesBelow count self.old → node.0 < count → HaveNodesBelow count self.new }
+        ensures nodes { (end : _) → HaveNodesBelow end self.old → node.0 < end → HaveNodesBelow end self.new }
         ensures ordered { AreOrdered self.new }
     {
         self.push(ChildMap::Leaf { bits, node })
@@ -158,7 +158,7 @@ impl ChildMaps {
         ensures more { Extends self.old self.new }
         ensures within { IfOk result (λ after. after.0 ≤ length self.new) }
         ensures exact { IfOk result (SetsChild self.old self.new map bits node) }
-        ensures nodes { (count : _) → HaveNodesBelow count self.old → node.0 < count → HaveNodesBelow count self.new }
+        ensures nodes { (end : _) → HaveNodesBelow end self.old → node.0 < end → HaveNodesBelow end self.new }
         ensures ordered { AreOrdered self.new }
     {
         match self.child_map(map) {

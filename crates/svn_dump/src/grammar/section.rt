@@ -69,7 +69,7 @@ fn split_deleted(bytes: &[u8]) -> Option<(SectionEntry<'_>, &[u8])>
 
 /// The entry at the front, and what follows it. Only changes delete properties.
 fn split_entry(has_changes: bool, bytes: &[u8]) -> Option<(SectionEntry<'_>, &[u8])>
-    ensures { option_map (λ parts. (section_entry_view parts.0, parts.1.now)) result ≡ entry_of has_changes bytes.now }
+    ensures { option_map (λ both. (section_entry_view both.0, both.1.now)) result ≡ entry_of has_changes bytes.now }
 {
     match split_valued(bytes) {
         None if has_changes => split_deleted(bytes),
