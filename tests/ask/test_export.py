@@ -12,13 +12,14 @@ from pathlib import Path
 from typing import Any
 from unittest import mock
 
-from svnask.export import database
-
 from dev.tree import DOCS
+from svnask import History
+from svnask.branches.questions import IN_PART, holders_of_all
+from svnask.export import database
 from tests.ask import base
 from tests.ask.drawn_repositories import drawn, synchronized
 
-TABLES = "source revision change mergeinfo branch ancestor branch_revision merge merge_range".split()
+TABLES = "source revision change mergeinfo branch ancestor branch_revision merge merge_range other_revision".split()
 HOLDERS = """
 SELECT path, 'history' FROM in_history JOIN branch ON id = branch WHERE revision = ?1 AND is_alive UNION
 SELECT path, CASE is_recorded WHEN 1 THEN 'recorded' ELSE 'merged' END FROM in_merge JOIN branch ON id = branch
@@ -29,6 +30,12 @@ WHERE in_merge.revision = ?1 AND is_alive
 def rows(path: Path, question: str, *values: Any) -> list[tuple[Any, ...]]:
     with closing(sqlite3.connect(path)) as opened:
         return opened.execute(question, values).fetchall()
+
+
+def holders_in(path: Path, rev: int) -> dict[str, str]:
+    """Return which branches and tags have a revision, each with the first way of these in which it does."""
+    found = rows(path, HOLDERS, rev)
+    return {name: each for how in ("recorded", "merged", "history") for name, each in found if each == how}
 
 
 class Exported(base.Case):
@@ -51,10 +58,7 @@ class Exported(base.Case):
                 (each["path"], "merged" if each["how"] == "merged in part" else each["how"])
                 for each in self.objects(dump, "contains", str(rev))
             )
-            found: dict[str, str] = {}
-            for how in ("recorded", "merged", "history"):
-                found.update((name, each) for name, each in rows(path, HOLDERS, rev) if each == how)
-            self.assertEqual(sorted(found.items()), wanted, (dump.name, rev))
+            self.assertEqual(sorted(holders_in(path, rev).items()), wanted, (dump.name, rev))
 
     def test_what_the_verbs_say(self) -> None:
         dump = base.dump_of("merges")
@@ -119,6 +123,19 @@ class Exported(base.Case):
             dump = self.made(f"features{seed}", synchronized(seed))
             head = int(base.called("--json", dump, "info").output.split(b'"youngest": ')[1].split(b",")[0])
             self.check_holders(dump, self.exported(dump, f"{seed}.db"), range(1, head + 1, 3))
+
+    def test_drawn_histories(self) -> None:
+        """Of each branch and tag the database says what `contains` says, also of copies and merges from elsewhere."""
+        for seed in range(300):
+            path = self.folder / f"{seed}.db"
+            with History.open(str(self.made("dump", drawn(seed))), is_cached=False) as history:
+                database.export(history, str(path))
+                held = holders_of_all(history, [], range(1, history.head + 1))
+                wanted = {(each.rev, database.text(each.holder.path)): each.holder.how for each in held}
+                head = history.head
+            found = {(rev, name): how for rev in range(1, head + 1) for name, how in holders_in(path, rev).items()}
+            self.assertEqual(found, {place: "merged" if how == IN_PART else how for place, how in wanted.items()}, seed)
+            path.unlink()
 
     def test_what_is_new_is_added(self) -> None:
         for name in base.names():

@@ -4,14 +4,14 @@ from __future__ import annotations
 import json
 from typing import Any
 
-from dev.dumps import FILE, Dump, Revision, added, changed, copied, mergeinfo
+from dev.dumps import FILE, Dump, Revision, added, changed, copied, deleted, dump_of, mergeinfo
 from svnask.export.migration import name_in_git, reason_against
 from tests.ask import base
 
 
 class Migrations(base.Case):
-    def lines(self, *words: base.Word) -> list[str]:
-        done = base.called(*words, "migration")
+    def lines(self, *words: base.Word, larger: str = "") -> list[str]:
+        done = base.called(*words, "migration", *["--larger", larger] * bool(larger))
         self.assertEqual((done.status, done.said), (0, ""))
         return done.output.decode().splitlines()
 
@@ -48,6 +48,36 @@ class Migrations(base.Case):
         self.assertEqual(
             [line for line in self.lines(dump) if line.startswith("sev")], ["several\tr3\t/branches/b /trunk"]
         )
+
+    def test_what_is_outside_of_branches_and_what_is_empty(self) -> None:
+        places = (b"trunk", b"trunk/none", b"trunk/some", b"trunk/some/none", b"branches", b"tags", b"www", b"www/a")
+        text = added(b"trunk/some/f", FILE, text=b"x" * 2000)
+        changes = [
+            [*map(added, places), text, added(b"README", FILE, text=b"short")],
+            [copied(b"branches/b", b"trunk", 1), deleted(b"trunk/some/none")],
+            [changed(b"www/a"), changed(b"branches/b/some/f", text=b"y" * 3000)],
+            [deleted(b"README")],
+        ]
+        dump = self.made("dump", dump_of(*changes))
+        wanted = [
+            ["outside", "/README", "r1-r4"],
+            ["outside", "/www", "r1-"],
+            ["empty", "/trunk/none"],
+            ["large", "/trunk/some/f", "r1", "2000 bytes"],
+            ["large", "/branches/b/some/f", "r3", "3000 bytes"],
+        ]
+        kinds = ("outside", "empty", "large")
+        found = [line.split("\t") for line in self.lines(dump, larger="1000")]
+        self.assertEqual([fields for fields in found if fields[0] in kinds], wanted)
+        objects = [
+            json.loads(line)
+            for line in base.called("--json", dump, "migration", "--larger", "1000").output.splitlines()
+        ]
+        self.assertEqual(
+            [[each["type"], each["path"]] for each in objects if each["type"] in kinds], [each[:2] for each in wanted]
+        )
+        self.assertEqual([each["bytes"] for each in objects if each["type"] == "large"], [2000, 3000])
+        self.assertEqual([line for line in self.lines(dump) if line.startswith("large")], [])
 
     def test_names(self) -> None:
         for path, name in (

@@ -24,6 +24,8 @@ if TYPE_CHECKING:
 else:
     shutil = Lazy("shutil")
 
+# After how many records what was read is taken out of the process.
+RELEASED_AFTER = 1 << 14
 # A part of a copy.
 Bytes = Union[mmap.mmap, bytes]
 # Of a record the path, the kind, the action, the revision and the path of its source, and what it gave and changed.
@@ -102,6 +104,8 @@ class Store:
         self.is_loaded = is_loaded
         self.is_kept = is_kept
         self._folder = folder
+        # How often it has to be closed.
+        self._users = 1
         generation, length = index.kept.generation, index.kept.base
         self._file = open(os.path.join(folder, "dump.%d" % generation), "rb", opener=files.opener)
         try:
@@ -123,6 +127,12 @@ class Store:
         places = [0, *self.index.revisions, self.index.length]
         return list(map(self._sum, places, places[1:])) == self.index.sums
 
+    def release(self) -> None:
+        """Take what was read of the copy out of this process. It is mapped again where it is read."""
+        for part in self.first, self.later:
+            if isinstance(part, mmap.mmap):
+                part.madvise(mmap.MADV_DONTNEED)
+
     def _sum(self, first: int, last: int) -> int:
         """The checksum of the bytes of the copy from one offset to another one."""
         base = self.index.kept.base
@@ -138,7 +148,14 @@ class Store:
         if self._sum(self.index.revisions[rev], self._end(rev)) != self.index.sums[rev + 1]:
             raise Damaged
 
+    def share(self) -> None:
+        """Count one more user, who closes it, too."""
+        self._users += 1
+
     def close(self) -> None:
+        self._users -= 1
+        if self._users:
+            return
         for part in self.first, self.later:
             if isinstance(part, mmap.mmap):
                 part.close()
@@ -245,6 +262,8 @@ class Store:
     def telling(self) -> Iterator[Record]:
         """The records that make or unmake a path, or change its mergeinfo: few of all. They are numbered by themselves."""
         for number, (found, rev) in enumerate(self._telling(), 1):
+            if number % RELEASED_AFTER == 0:
+                self.release()
             record = record_of(found, number, rev, self.index.format)
             if record.action != "change" or record.mergeinfo is not None:
                 yield record
@@ -252,7 +271,9 @@ class Store:
     def _telling(self) -> Iterator[tuple[re.Match[bytes], int]]:
         """The blocks of records that may tell something, with their revisions. Each that has a section is one of them,
         so that what only looks like one, in the section of a revision or of a record, is known by its place."""
-        if not self.is_as_written():
+        is_as_written = self.is_as_written()
+        self.release()
+        if not is_as_written:
             raise Damaged
         rev, end = -1, 0
         for part, begin in (self.first, 0), (self.later, self.index.kept.base):

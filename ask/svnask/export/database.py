@@ -6,18 +6,23 @@ from __future__ import annotations
 
 import bisect
 import contextlib
+import marshal
 import os
 import shutil
 import sqlite3
-from collections.abc import Iterable, Iterator
+from collections.abc import Iterable, Iterator, Sequence
+from functools import partial
 from typing import Any, NamedTuple
 
 from svnask import __version__
+from svnask.branches.questions import HISTORY, IN_PART, MERGED
 from svnask.errors import Failed, Usage
-from svnask.export.schema import DERIVED, MADE, TABLES
+from svnask.export.others import Chain, Examined, Others
+from svnask.export.schema import DERIVED, INDEX, MADE, TABLES
 from svnask.files import replaced
 from svnask.history.lives import Life
 from svnask.history.open_history import OpenHistory
+from svnask.log.processes import count_of_processes, made
 from svnask.picture.graph import Graph, graph_of
 from svnask.projects import kind_of
 from svnask.revisions import Revisions, in_range
@@ -26,7 +31,8 @@ from svnask.revisions import Revisions, in_range
 PIECE = 1000
 # SQLite has checked the types of columns since this version.
 STRICT = (3, 37)
-Rows = Iterator[tuple[Any, ...]]
+Row = tuple[Any, ...]
+Rows = Iterator[Row]
 
 
 class Exported(NamedTuple):
@@ -43,7 +49,8 @@ def text(given: bytes | None) -> str | None:
 
 def export(history: OpenHistory, name: str) -> Exported:
     """Write a history to a database, or add what is new to one that has the beginning of it."""
-    history.check()
+    if not history.is_whole:
+        history.check()
     final = os.path.realpath(name)
     if name == "" or os.path.exists(final) and not os.path.isfile(final):
         raise Usage(f"'{name}' is no name of a file")
@@ -72,7 +79,8 @@ def write_database(history: OpenHistory, path: str, name: str) -> Exported:
 
 
 def statements(script: str) -> str:
-    return script.format(strict="STRICT" if sqlite3.sqlite_version_info >= STRICT else "")
+    is_strict = sqlite3.sqlite_version_info >= STRICT
+    return script.format(strict="STRICT" * is_strict, rowless="WITHOUT ROWID" + ", STRICT" * is_strict)
 
 
 def first_lacking(history: OpenHistory, database: sqlite3.Connection, name: str) -> int:
@@ -91,12 +99,12 @@ def first_lacking(history: OpenHistory, database: sqlite3.Connection, name: str)
     return int(youngest) + 1
 
 
-def row_of(history: OpenHistory, rev: int) -> tuple[str | None, ...]:
+def row_of(history: OpenHistory, rev: int) -> Row:
     revision = history.revision(rev)
-    return text(revision.author), text(revision.date), text(revision.message)
+    return rev, text(revision.author), text(revision.date), text(revision.message)
 
 
-def put(database: sqlite3.Connection, table: str, rows: Iterable[tuple[Any, ...]]) -> None:
+def put(database: sqlite3.Connection, table: str, rows: Iterable[Row]) -> None:
     """Insert rows, of which each has all columns of a table."""
     width = len(database.execute(f"SELECT * FROM {table} LIMIT 0").description)
     database.executemany(f"INSERT OR REPLACE INTO {table} VALUES ({', '.join('?' * width)})", rows)
@@ -104,34 +112,58 @@ def put(database: sqlite3.Connection, table: str, rows: Iterable[tuple[Any, ...]
 
 def fill(history: OpenHistory, database: sqlite3.Connection, first: int) -> None:
     """Write what a database lacks, from a revision on, and all that may be different since."""
-    put(database, "revision", ((rev, *row_of(history, rev)) for rev in range(history.head + 1)))
+    put(database, "revision", (row_of(history, rev) for rev in range(first)))
     if first > history.head:
+        history.check()
         return
     for each in MADE:
         database.execute(f"DROP {each.partition(' ')[0]} IF EXISTS {each.partition(' ')[2]}")
     database.execute("DELETE FROM source")
-    for begun in range(first, history.head + 1, PIECE):
-        revs = range(begun, min(begun + PIECE, history.head + 1))
-        history.find_kinds(revs)
-        put(database, "change", changes(history, revs))
-        history.forget_changes()
+    for revisions, found in rows_of_pieces(history, first):
+        put(database, "revision", revisions)
+        put(database, "change", found)
+    history.check()
+    database.execute(INDEX)
     put(database, "mergeinfo", values(history, first))
     for statement in statements(DERIVED).split(";"):
         database.execute(statement)
     known = Branches(graph_of(history, []))
+    history.release()
+    known.examine(history)
     put(database, "branch", known.branches())
     put(database, "ancestor", known.ancestors())
     put(database, "branch_revision", known.revisions())
     put(database, "merge", known.merges())
     put(database, "merge_range", known.merge_ranges())
+    put(database, "other_revision", known.others())
     put(database, "source", [(history.source.name, text(history.index.uuid), history.head, __version__)])
 
 
-def changes(history: OpenHistory, revs: Iterable[int]) -> Rows:
+def rows_of_pieces(history: OpenHistory, first: int) -> Iterator[tuple[list[Row], list[Row]]]:
+    """Yield the rows of revisions and of their changes, piece after piece. Several processes make them, but for where
+    svnhist runs already: it is asked by threads."""
+    pieces = [range(begun, min(begun + PIECE, history.head + 1)) for begun in range(first, history.head + 1, PIECE)]
+    # What all of them need is read before they are copies of this one.
+    assert history.tree is not None
+    history.release()
+    for found in made(partial(packed, history), pieces, min(count_of_processes(), len(pieces))):
+        yield marshal.loads(found)
+
+
+def packed(history: OpenHistory, revs: Sequence[int]) -> bytes:
+    history.find_kinds(revs)
+    found: tuple[list[Row], list[Row]] = [], []
     for rev in revs:
-        for each in history.changes(rev):
-            source = (None, None) if each.source is None else (text(each.source[0]), each.source[1])
-            yield rev, text(each.path), each.letter, each.kind, each.has_text, each.has_properties, *source
+        found[0].append(row_of(history, rev))
+        found[1].extend(changes(history, rev))
+    history.forget_changes()
+    return marshal.dumps(found)
+
+
+def changes(history: OpenHistory, rev: int) -> Rows:
+    for each in history.changes(rev):
+        source = (None, None) if each.source is None else (text(each.source[0]), each.source[1])
+        yield rev, text(each.path), each.letter, each.kind, each.has_text, each.has_properties, *source
 
 
 def values(history: OpenHistory, first: int) -> Rows:
@@ -151,6 +183,7 @@ class Branches:
         self._by_path: dict[bytes, list[Life]] = {}
         # Where in its lane the lives begin that each life goes on with.
         self._begins: dict[Life, int] = {}
+        self._examined: dict[Life, Examined] = {}
         for lane, each in enumerate(graph.lanes):
             for place, life in enumerate(each.lives):
                 before = each.lives[place - 1] if place else None
@@ -177,13 +210,44 @@ class Branches:
     def ancestors(self) -> Rows:
         """Yield the ranges of revisions of lanes that are in the history of each life."""
         for life, (number, _, _) in self._places.items():
-            found: Life | None = life
-            last = life.last
-            while found is not None:
-                _, lane, _ = self._places[found]
-                begin = self._graph.lanes[lane].lives[self._begins[found]]
-                yield number, lane, begin.first, last
-                found, last = self._origin(begin), 0 if begin.source is None else begin.source[1]
+            examined = self._examined.get(life)
+            has_merges = examined is None or examined.has_own
+            for begin, last in self._chain(life):
+                yield number, self._places[begin][1], begin.first, last, has_merges
+                has_merges = examined is None or examined.has_older
+
+    def _chain(self, life: Life) -> Iterator[tuple[Life, int]]:
+        """Yield where a life begins in its lane, and the last revision of that, and so on of what it was copied from."""
+        found: Life | None = life
+        last = life.last
+        while found is not None:
+            _, lane, _ = self._places[found]
+            begin = self._graph.lanes[lane].lives[self._begins[found]]
+            yield begin, last
+            found, last = self._origin(begin), 0 if begin.source is None else begin.source[1]
+
+    def examine(self, history: OpenHistory) -> None:
+        """Look what branches of today have beside what their lanes say."""
+        chains = {life: self._sources(life) for life in self._places if life.is_alive}
+        self._examined = {each.life: each for each in Others(history, self._places).examined(chains)}
+
+    def _sources(self, life: Life) -> Chain:
+        begins = [begin for begin, _ in self._chain(life)]
+        sources = [begin.source for begin in begins if begin.source is not None]
+        return Chain(sources, begins[-1].source is None)
+
+    def others(self) -> Rows:
+        """Yield what branches of today have that came from no branch."""
+        for life, examined in self._examined.items():
+            known = self._history_of(life) if examined.revisions else set()
+            for rev, how in examined.revisions:
+                if how != HISTORY or rev not in known:
+                    yield self._places[life][0], rev, MERGED if how == IN_PART else how
+
+    def _history_of(self, life: Life) -> set[int]:
+        """Return the revisions that the lanes have in the history of a life."""
+        lanes = ((self._graph.lanes[self._places[begin][1]], begin.first, last) for begin, last in self._chain(life))
+        return {rev for lane, first, last in lanes for rev in in_range(lane.revisions, first, last)}
 
     def revisions(self) -> Rows:
         for life, (number, lane, _) in self._places.items():

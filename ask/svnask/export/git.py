@@ -7,11 +7,12 @@ from collections.abc import Iterable, Iterator
 from typing import NamedTuple
 
 from svnask.errors import Denied, Failed
+from svnask.export.contents import files_at
 from svnask.export.migration import WHOLE, NamedLife, ShownMerge, named_lives, shown_merges
 from svnask.history.dates import read_date
 from svnask.history.lives import Life
 from svnask.history.open_history import OpenHistory
-from svnask.paths import joined, rest_below
+from svnask.paths import joined
 from svnask.picture.graph import Graph, Lane, graph_of
 from svnask.projects import TAG, TRUNK, trunk_of
 from svnask.revisions import in_range
@@ -157,20 +158,6 @@ class Comparison:
             how, parents = merge.how.encode("ascii"), commits[0].parents
             said = b"a merge of %s by r%d is %s, and has %d parents" % (merge.of, merge.rev, how, parents)
             yield GitDifference("merge", merge.into, said)
-
-
-def files_at(history: OpenHistory, top: bytes, rev: int) -> set[bytes]:
-    """Return the names of the files below a path in a revision."""
-    left, places = [top], []
-    while left:
-        path = left.pop()
-        for name in history.tree.names(path):
-            below = joined(path, name)
-            if history.tree.exists(below, rev):
-                left.append(below)
-                places.append((below, rev))
-    kinds = history.kinds(places)
-    return {rest_below(path, top) for path, _ in places if kinds.get((path, rev)) == "file"}
 
 
 def time_of(date: bytes | None) -> int:

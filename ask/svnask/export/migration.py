@@ -6,6 +6,7 @@ from collections.abc import Iterable, Iterator
 from typing import NamedTuple
 
 from svnask.branches.questions import Touched, touched
+from svnask.export.contents import Outside, empty_directories, outside_of
 from svnask.history.lives import Life
 from svnask.history.open_history import OpenHistory
 from svnask.paths import components
@@ -69,6 +70,9 @@ class Migration(NamedTuple):
     authors: list[Author]
     projects: list[Project]
     lives: list[NamedLife]
+    outside: list[Outside]
+    # The directories of the trunks of today that have nothing in them.
+    empty: list[bytes]
     several: list[Several]
     tags: list[Touched]
     merges: list[ShownMerge]
@@ -79,10 +83,13 @@ def migration_of(history: OpenHistory) -> Migration:
     graph = graph_of(history, [])
     lives = [life for lane in graph.lanes for life in lane.lives]
     merges = list(shown_merges(graph))
+    trunks = sorted(life.path for life in lives if life.is_alive and kind_of(life.path) == TRUNK)
     return Migration(
         authors_of(history),
         projects_of(lives),
         list(named_lives(lives)),
+        outside_of(history, lives),
+        [path for trunk in trunks for path in empty_directories(history, trunk)],
         list(several_in(graph)),
         list(touched(history, ())) if any(kind_of(life.path) == TAG for life in lives) else [],
         merges,

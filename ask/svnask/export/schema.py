@@ -1,7 +1,8 @@
 """The tables of an exported history, and the views that answer questions about branches and tags."""
 from __future__ import annotations
 
-# `{strict}` is there where SQLite knows it. A revision is a number everywhere.
+# STRICT is there where SQLite knows it. Tables whose key is not a number have no other one. A revision is a number
+# everywhere.
 TABLES = """
 CREATE TABLE source (
     name TEXT NOT NULL, uuid TEXT, youngest INTEGER NOT NULL, version TEXT NOT NULL
@@ -14,12 +15,13 @@ CREATE TABLE change (
     text INTEGER NOT NULL, properties INTEGER NOT NULL, from_path TEXT, from_revision INTEGER,
     PRIMARY KEY (revision, path)
 ) {strict};
-CREATE INDEX change_of_path ON change (path, revision);
 CREATE TABLE mergeinfo (
     path TEXT NOT NULL, revision INTEGER NOT NULL REFERENCES revision, value TEXT,
     PRIMARY KEY (path, revision)
-) {strict};
+) {rowless};
 """
+# Sooner made when the rows are there.
+INDEX = "CREATE INDEX IF NOT EXISTS change_of_path ON change (path, revision)"
 # What is written anew whenever there are new revisions. A branch that was renamed goes on in its lane.
 DERIVED = """
 CREATE TABLE branch (
@@ -30,13 +32,13 @@ CREATE TABLE branch (
 CREATE INDEX branch_of_path ON branch (path);
 CREATE TABLE ancestor (
     branch INTEGER NOT NULL REFERENCES branch, lane INTEGER NOT NULL, first INTEGER NOT NULL, last INTEGER NOT NULL,
-    PRIMARY KEY (branch, lane, first)
-) {strict};
+    has_merges INTEGER NOT NULL, PRIMARY KEY (branch, lane, first)
+) {rowless};
 CREATE INDEX ancestor_of_lane ON ancestor (lane, last);
 CREATE TABLE branch_revision (
     branch INTEGER NOT NULL REFERENCES branch, revision INTEGER NOT NULL REFERENCES revision, lane INTEGER NOT NULL,
     PRIMARY KEY (branch, revision)
-) {strict};
+) {rowless};
 CREATE INDEX branch_revision_of_revision ON branch_revision (revision, lane);
 CREATE TABLE merge (
     id INTEGER PRIMARY KEY, revision INTEGER NOT NULL REFERENCES revision,
@@ -48,20 +50,27 @@ CREATE TABLE merge (
 CREATE INDEX merge_of_origin ON merge (origin_lane, revision);
 CREATE TABLE merge_range (
     merge INTEGER NOT NULL REFERENCES merge, first INTEGER NOT NULL, last INTEGER NOT NULL, PRIMARY KEY (merge, first)
-) {strict};
+) {rowless};
+CREATE TABLE other_revision (
+    branch INTEGER NOT NULL REFERENCES branch, revision INTEGER NOT NULL REFERENCES revision, how TEXT NOT NULL,
+    PRIMARY KEY (branch, revision)
+) {rowless};
+CREATE INDEX other_revision_of_revision ON other_revision (revision);
 
 CREATE VIEW in_history AS
 SELECT ancestor.branch, branch_revision.revision
 FROM branch_revision JOIN ancestor
-ON ancestor.lane = branch_revision.lane AND branch_revision.revision BETWEEN ancestor.first AND ancestor.last;
+ON ancestor.lane = branch_revision.lane AND branch_revision.revision BETWEEN ancestor.first AND ancestor.last
+UNION ALL SELECT branch, revision FROM other_revision WHERE how = 'history';
 
 CREATE VIEW in_merge AS
 SELECT ancestor.branch, branch_revision.revision, merge.revision AS merged_in, merge.is_recorded
 FROM branch_revision JOIN merge ON merge.origin_lane = branch_revision.lane AND merge.into_path IS NULL
 JOIN merge_range ON merge_range.merge = merge.id
     AND branch_revision.revision BETWEEN merge_range.first AND merge_range.last
-JOIN ancestor ON ancestor.lane = merge.lane AND merge.revision BETWEEN ancestor.first AND ancestor.last
-    AND (merge.lost IS NULL OR merge.lost > ancestor.last);
+JOIN ancestor ON ancestor.lane = merge.lane AND ancestor.has_merges AND merge.revision BETWEEN ancestor.first AND ancestor.last
+    AND (merge.lost IS NULL OR merge.lost > ancestor.last)
+UNION ALL SELECT branch, revision, NULL, how = 'recorded' FROM other_revision WHERE how <> 'history';
 
 CREATE VIEW unmerged AS
 SELECT branch.id AS branch, branch_revision.revision
@@ -87,5 +96,12 @@ WHERE change.kind = 'file' GROUP BY change.path, revision.author;
 # What DERIVED makes, those first that others refer to.
 MADE = (
     *("VIEW author_of_file", "VIEW changed_tag", "VIEW unmerged", "VIEW in_merge", "VIEW in_history"),
-    *("TABLE merge_range", "TABLE merge", "TABLE branch_revision", "TABLE ancestor", "TABLE branch"),
+    *(
+        "TABLE other_revision",
+        "TABLE merge_range",
+        "TABLE merge",
+        "TABLE branch_revision",
+        "TABLE ancestor",
+        "TABLE branch",
+    ),
 )

@@ -172,16 +172,27 @@ class Tree:
                 if event.source is not None and (rev is None or event.rev <= rev):
                     yield moved(path, top, event.source)
 
+    @functools.cached_property
     def copies(self) -> list[tuple[bytes, Event]]:
         """The copies, in the order of the dump, with their paths."""
-        found = [(path, event) for path, events in self._events.items() for event in events if event.source is not None]
+        return [(path, event) for path, event in self.turns if event.source is not None]
+
+    @functools.cached_property
+    def turns(self) -> list[tuple[bytes, Event]]:
+        """The copies, deletions and replacements, in the order of the dump, with their paths."""
+        found = [
+            (path, event)
+            for path, events in self._events.items()
+            for event in events
+            if event.source is not None or event.action != "add"
+        ]
         return sorted(found, key=lambda each: each[1].number)
 
     @functools.cached_property
     def _copies_of(self) -> dict[Place, list[Place]]:
         """Return where each place was copied to, and in which revisions."""
         found: dict[Place, list[Place]] = {}
-        for path, event in self.copies():
+        for path, event in self.copies:
             assert event.source is not None
             found.setdefault(event.source, []).append((path, event.rev))
         return found
@@ -201,7 +212,7 @@ class Tree:
         """The paths of the trunks, the branches and the tags, and of what was copied from one of them as a whole to a
         place that is in none of them. A directory of branches is none itself."""
         found = dict.fromkeys(self._named())
-        for path, event in self.copies():
+        for path, event in self.copies:
             assert event.source is not None
             if event.source[0] in found and not any(
                 top in found and not self._may_be_folder(top) for top in tops_of(path)
@@ -227,7 +238,7 @@ class Tree:
         found = {top for path in self._events for top in (path, parent_of(path)) if projects.is_special(top)}
         rising = sorted(found)
         count = 0
-        for path, event in self.copies():
+        for path, event in self.copies:
             if projects.is_in_named(path):
                 continue
             for new in [*self._special_below(rising, path, event)]:

@@ -11,6 +11,9 @@ from svnask.history.open_history import OpenHistory
 
 
 class ExportVerb(Verb):
+    # It begins without svnhist.
+    judges = False
+
     def arguments(self, parser: ArgumentParser) -> None:
         parser.add_argument("output", metavar="FILE", help="the file, which is made, or gets what is new")
 

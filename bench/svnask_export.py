@@ -1,0 +1,45 @@
+"""`svnask export`: a database of 120,000 revisions with 490,000 changes, and one that gets a revision more.
+
+Times are those of a clock. The memory is that of the process that writes, with what is mapped of the copy.
+"""
+from __future__ import annotations
+
+from pathlib import Path
+
+from bench.histories import CHANGES, generated
+from bench.measure import Run, Setup, command, walls
+from bench.tables import Limited, Row, Table, Tables
+from dev.dumps import Revision, changed
+from dev.running import Measured
+from dev.tree import ROOT
+
+REVISIONS = 120000
+MOST_SECONDS, MOST_OF_LATER, MOST_MEGABYTES = 10.0, 8.0, 150.0
+
+
+def new_export(setup: Setup, dump: Path, database: Path) -> Run:
+    """Return a run that makes a database anew."""
+
+    def run() -> Measured:
+        database.unlink(missing_ok=True)
+        return command(setup.svnask(dump, "export", database))()
+
+    return run
+
+
+def measured(setup: Setup) -> Tables:
+    """`svnask export`: a database of 120,000 revisions with 490,000 changes, and one that gets a revision more."""
+    count = setup.scaled(REVISIONS)
+    dump, database = generated(setup.folder / "exported", CHANGES, count).dump, setup.folder / "exported.db"
+    command(setup.svnask(dump, "info"))()
+    seconds = walls({"": new_export(setup, dump, database)}, setup.times)[""]
+    words = setup.python(ROOT / "bench" / "own_peak.py", dump, "export", setup.folder / "other.db")
+    megabytes = int(command(words)().outcome.errors.split()[-1]) * 1024 / 1e6
+    with open(dump, "ab") as file:
+        file.write(bytes(Revision(count + 1, [changed(b"trunk")])))
+    later = command(setup.svnask(dump, "export", database))().wall
+    rows: list[Row] = [
+        ["a new database", Limited(seconds, MOST_SECONDS), Limited(megabytes, MOST_MEGABYTES)],
+        ["a revision more", Limited(later, MOST_OF_LATER), None],
+    ]
+    yield Table("svnask-export", "what is made | s:.2f | peak MB of Python:.0f", rows)
