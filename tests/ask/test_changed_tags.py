@@ -48,7 +48,7 @@ def events_of(known: Plain, path: plain.Path) -> Events:
 class ChangedTags(base.Case):
     def test_drawn_histories(self) -> None:
         count = 0
-        for seed in range(30):
+        for seed in range(300):
             dump = drawn(seed)
             known = Plain(dump)
             found: dict[bytes, Events] = {}

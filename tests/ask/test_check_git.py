@@ -8,7 +8,8 @@ from typing import Callable
 
 from dev.running import run
 from svnask import History
-from svnask.export.git import files_at, time_of
+from svnask.export.contents import files_at
+from svnask.export.git import time_of
 from svnask.export.migration import WHOLE, NamedLife, named_lives, shown_merges
 from svnask.picture.graph import Graph, graph_of
 from tests.ask import base

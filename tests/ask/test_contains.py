@@ -42,7 +42,7 @@ class Contains(base.Case):
         return count
 
     def test_drawn_histories(self) -> None:
-        self.assertGreater(sum(self.check(f"dump{seed}", drawn(seed)) for seed in range(12)), 200)
+        self.assertGreater(sum(self.check(f"dump{seed}", drawn(seed)) for seed in range(300)), 200)
 
     def test_synchronized_features(self) -> None:
         for seed in range(2):

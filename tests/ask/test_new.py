@@ -46,7 +46,7 @@ class New(base.Case):
             self.check(name, base.content_of(name))
 
     def test_drawn_histories(self) -> None:
-        found = [self.check(f"dump{seed}", drawn(seed)) for seed in range(12)]
+        found = [self.check(f"dump{seed}", drawn(seed)) for seed in range(300)]
         self.assertGreater(sum(compared for compared, _ in found), 200)
         self.assertGreater(sum(gaining for _, gaining in found), 50)
 
