@@ -8,6 +8,7 @@ from collections.abc import Iterable, Iterator
 from typing import NamedTuple
 
 from dev.tree import DOCS, ROOT
+from release import reference
 
 SVNASK = ROOT / "ask" / "svnask"
 # The pages for those who change svnhist. All other ones are for its users.
@@ -18,6 +19,8 @@ COMPLETIONS = {
     "svnask.bash": ("bash-completion/completions/svnask", "bash-completion/completions/svnask"),
     "_svnask": ("zsh/vendor-completions/_svnask", "zsh/site-functions/_svnask"),
 }
+# What belongs to svnask: its modules, and what its pages are made of.
+SUFFIXES = (".py", ".html", ".css", ".js", ".svg")
 MODULE = "usr/lib/python3/dist-packages/svnask/"
 PAGES = "usr/share/doc/svnhist/"
 EXAMPLE = re.compile(r"(?:examples|interop)/[\w-]+\.(?:dump|bundle|queries|report)")
@@ -63,18 +66,18 @@ def completion(name: str) -> bytes:
 
 def module() -> list[File]:
     """The files of svnask, by their places in the module."""
-    paths = (path for path in SVNASK.rglob("*") if path.suffix == ".py" or path.name in ("VERSION", "py.typed"))
+    paths = (path for path in SVNASK.rglob("*") if path.suffix in SUFFIXES or path.name in ("VERSION", "py.typed"))
     return sorted(File(str(path.relative_to(SVNASK)), path.read_bytes()) for path in paths)
 
 
 def names_of_pages() -> list[str]:
-    below = sorted(path.name for path in DOCS.iterdir() if path.suffix in (".md", ".svg"))
+    below = sorted(path.name for path in DOCS.iterdir() if path.suffix in (".md", ".svg", ".png"))
     return ["README.md", "SECURITY.md", *(f"docs/{name}" for name in below if name not in FOR_DEVELOPERS)]
 
 
 def examples(names: Iterable[str]) -> list[File]:
     """The examples that pages name, and the script that they call."""
-    found = sorted({name for page in names for name in EXAMPLE.findall(read(page).decode("utf-8"))})
+    found = sorted({name for page in names for name in EXAMPLE.findall(read(page).decode("utf-8", "replace"))})
     kept = [File(name, read(name)) for name in found if (ROOT / name).exists()]
     return [*kept, File("examples/strip-texts", read("examples/strip-texts"), 0o755)]
 
@@ -100,7 +103,7 @@ def pages(others: list[str]) -> list[File]:
         if name.endswith(".md"):
             text = with_live_links(name, text.decode("utf-8"), paths).encode("utf-8")
         kept.append(File(name, text))
-    return kept
+    return [*kept, File(reference.NAME, reference.page())]
 
 
 def of_tarball(parts: Parts) -> list[File]:

@@ -21,10 +21,12 @@ from typing import Optional
 from dev.checks import Checks
 from dev.running import Limits, Outcome, run
 from dev.tree import ROOT, Programs
+from release import reference
 from release.archives import package, tarball
 from release.contents import LINK, MANUALS, Parts, of_package, of_tarball, version
 from release.program import PROGRAMS, Program
 from release.wheel import name_of_wheel, of_wheel, title, wheel
+from svnask import __all__ as public_names
 from tests.base import ProgramTest
 from tests.copies import PARTS, copied_tree
 from tests.test_shown_commands import ShownCommands
@@ -90,6 +92,15 @@ class Versions(Checks):
 
 
 class Tarballs(ShownCommands):
+    def test_the_reference_has_all_public_names(self) -> None:
+        page = reference.page().decode("utf-8")
+        for name in public_names:
+            self.assertIn(f"\n## {name}\n", page)
+        for name in ("open", "contains", "segments", "new", "is_whole"):
+            self.assertIn(f"\n### {name}\n", page)
+        self.assertEqual(page.count("```python"), page.count("\n```\n"))
+        self.assertIn(reference.NAME, [file.path.partition("/")[2] for file in of_tarball(parts_of(self.programs))])
+
     def test_a_tarball_has_the_same_bytes_each_time(self) -> None:
         one, other = (tarball(of_tarball(parts_of(self.programs)), WHEN) for _ in range(2))
         self.assertTrue(one == other)
