@@ -18,13 +18,13 @@ REVISIONS = 100000
 # Seconds that a question may take beyond `info`, which reads the same.
 VERBS = {
     "branches": 3.0,
-    "branches --ahead-behind": 15.0,
+    "branches --ahead-behind": 9.0,
     "contains 1000": 3.0,
     "changed-tags /branches/*": 3.0,
-    "graph": 12.0,
-    "unmerged": 4.2,
+    "graph": 7.0,
+    "unmerged": 1.5,
     "log trunk": 3.0,
-    **{f"log -g{options} trunk": 4.0 for options in ("", " -q", " -v", " --xml", " --xml -v")},
+    **{f"log -g{options} trunk": 3.0 for options in ("", " -q", " -v", " --xml", " --xml -v")},
 }
 MOST_OF_SERVER = 0.15
 

@@ -57,24 +57,35 @@ class Bringing:
     def __init__(self, history: OpenHistory) -> None:
         self._history = history
         self._values = Values()
-        self._known: dict[int, bool] = {0: False}
+        # The revisions that were looked at, and those of them that bring something.
+        self._known, self._found = {0}, set[int]()
 
-    def among(self, revisions: Iterable[int]) -> set[int]:
+    def among(self, asked: set[int]) -> set[int]:
         """Return those that bring something."""
-        asked = set(revisions)
+        new = asked - self._known
+        if new:
+            self._known |= new
+            self._found |= self._bringing(new)
+        return asked & self._found
+
+    def _bringing(self, asked: set[int]) -> set[int]:
+        """Return those that bring something, by their records."""
+        found: set[int] = set()
         left: dict[int, dict[bytes, list[AskedOrigin]]] = {}
-        for rev in sorted(asked - self._known.keys()):
+        for rev in sorted(asked):
             changes, targets = self._history.changes(rev), self._targets(rev)
             rest = [each.path for each in changes if each.has_text or each.path not in targets]
-            self._known[rev] = bool(rest or not targets) and not is_copy_alone(changes)
-            if self._known[rev] and targets:
-                left[rev] = self._origins(rev, targets, rest)
+            if (rest or not targets) and not is_copy_alone(changes):
+                found.add(rev)
+                if targets:
+                    left[rev] = self._origins(rev, targets, rest)
         answers = self._history.answers(each.query for paths in left.values() for of in paths.values() for each in of)
         for rev, paths in left.items():
-            self._known[rev] = not all(
+            if all(
                 any(self._is_changed(each.path, answers[each.query].revisions) for each in of) for of in paths.values()
-            )
-        return {rev for rev in asked if self._known[rev]}
+            ):
+                found.remove(rev)
+        return found
 
     def _targets(self, rev: int) -> set[bytes]:
         """Return the paths whose mergeinfo a revision changed, and that were there before."""

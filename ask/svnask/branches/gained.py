@@ -81,9 +81,10 @@ def held_of(
     trace = log.Trace(answers[LocationSegments(*target)].segments, answers[Log(*target)].revisions)
     found = HeldRevisions(set(log.listed(history, trace)), set(), set(), set())
     for path, query, inheritable in parts:
-        alone = recorded.get(path, ())
-        for rev in answers[query].revisions:
-            (found.recorded if rev in alone else found.merged if inheritable else found.partial).add(rev)
+        revisions = answers[query].revisions
+        alone = recorded[path].among(revisions[::-1]) if path in recorded else []
+        found.recorded.update(alone)
+        (found.merged if inheritable else found.partial).update({*revisions}.difference(alone) if alone else revisions)
     return found
 
 

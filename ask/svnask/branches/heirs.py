@@ -4,8 +4,8 @@ from __future__ import annotations
 from collections.abc import Iterable, Iterator, Sequence
 from typing import NamedTuple
 
-from svnask.copy.store import Record
 from svnask.engine.queries import Locate, LocationSegments, Segment, is_askable
+from svnask.history.lives import Event
 from svnask.history.open_history import OpenHistory
 from svnask.history.targets import Target
 from svnask.paths import Place, components, joined, rest_below, tops_of
@@ -32,16 +32,16 @@ class PossibleHeirs:
     They are more than did: that a path ended before it was copied is left to svnhist.
     """
 
-    def __init__(self, records: Iterable[Record], target: Target, last: int) -> None:
+    def __init__(self, turns: Iterable[tuple[bytes, Event]], target: Target, last: int) -> None:
         # Of each path the first revision in which it may be an heir, and the paths at or below each path.
         self._first: dict[bytes, int] = {}
         self._below: dict[bytes, list[bytes]] = {}
         # The revisions and paths of deletions and replacements, which end what is at and below a path.
         self._ends: set[Place] = set()
         self._add(target.path, target.rev)
-        for record in records:
-            if target.rev < record.rev <= last:
-                self._follow(record)
+        for path, event in turns:
+            if target.rev < event.rev <= last:
+                self._follow(path, event)
 
     @property
     def paths(self) -> list[bytes]:
@@ -57,15 +57,15 @@ class PossibleHeirs:
             for top in tops_of(path):
                 self._below.setdefault(top, []).append(path)
 
-    def _follow(self, record: Record) -> None:
-        if record.action in ("delete", "replace"):
-            self._ends.add((record.path, record.rev))
-        if record.source is None:
+    def _follow(self, copy: bytes, event: Event) -> None:
+        if event.action in ("delete", "replace"):
+            self._ends.add((copy, event.rev))
+        if event.source is None:
             return
-        top, rev = record.source
+        top, rev = event.source
         for path in tuple(self._below.get(top, ())):
             if self._first[path] <= rev:
-                self._add(joined(record.path, rest_below(path, top)), record.rev)
+                self._add(joined(copy, rest_below(path, top)), event.rev)
 
 
 def copies_to(segments: Sequence[Segment], peg: int) -> Iterator[tuple[int, Place]]:
@@ -92,7 +92,7 @@ def moved_copies(history: OpenHistory, copies: Iterable[tuple[int, Place]]) -> s
 def heirs(history: OpenHistory, target: Target, last: int) -> Iterator[Heir]:
     """The paths of a revision that were the target in its peg revision, in the order of paths. The way of each is not
     held: in a chain of copies all of them are as long as the square of the chain."""
-    candidates = PossibleHeirs(history.records(), target, last)
+    candidates = PossibleHeirs(history.tree.turns, target, last)
     queries = [LocationSegments(path, last) for path in history.askable(candidates.paths)]
     is_move: dict[tuple[int, Place], bool] = {}
     for query, answer in zip(queries, history.ask(queries)):

@@ -29,6 +29,8 @@ else:
 MODULES = os.path.dirname(os.path.dirname(os.path.dirname(os.path.abspath(__file__))))
 PIECE = 1 << 20
 MOST_WORKERS = 64
+# How many queries are asked together where others wait.
+SHARED = 16
 # How many seconds a program may take to end that was told to.
 ENDING = 5
 # How the program is called, in a release and in the folder where it is built.
@@ -104,6 +106,8 @@ class Pending:
         self.next, self.end = first, end
         self.kept: deque[Reply] = deque()
         self.error: Exception | None = None
+        # Whether nobody takes the rest.
+        self.is_given_up = False
 
 
 class Talk:
@@ -126,6 +130,8 @@ class Talk:
         # Those queries of which replies may be on their way.
         self._open: Pending | None = None
         self._is_closed = False
+        # Whether it goes on for others where somebody does not take all answers.
+        self.is_shared = False
         if later:
             self.grow(later)
 
@@ -143,7 +149,13 @@ class Talk:
 
     def ask(self, queries: Sequence[Query[A]]) -> Iterator[A]:
         """The answers to queries, in their order. Others may be asked before all of them are taken. Where nobody takes
-        the rest, the talk is over."""
+        the rest, a talk that is not shared is over."""
+        # Of what is asked together all is read before others are answered.
+        size = SHARED if self.is_shared else len(queries)
+        for first in range(0, len(queries), size or 1):
+            yield from self._ask(queries[first : first + size])
+
+    def _ask(self, queries: Sequence[Query[A]]) -> Iterator[A]:
         lines = b"".join(query_line(query) + b"\n" for query in queries)
         with self._lock:
             self._keep_open()
@@ -154,7 +166,8 @@ class Talk:
             for query in queries:
                 yield query.answer(*self._next(asked))
         finally:
-            if asked.next < asked.end:
+            asked.is_given_up = True
+            if asked.next < asked.end and not self.is_shared:
                 self.close()
 
     def grow(self, piece: Buffer) -> None:
@@ -184,7 +197,9 @@ class Talk:
         asked, self._open = self._open, None
         try:
             while asked is not None and asked.next < asked.end:
-                asked.kept.append(self._take(asked))
+                reply = self._take(asked)
+                if not asked.is_given_up:
+                    asked.kept.append(reply)
         except (Failed, Refused) as error:
             assert asked is not None
             asked.error = error

@@ -9,7 +9,6 @@ from svnask.errors import Denied
 from svnask.history.open_history import OpenHistory
 from svnask.history.targets import Target
 from svnask.log import selection as log
-from svnask.mergeinfo.explicit import Explicit
 from svnask.merges import show_revs as mergeinfo
 from svnask.texts import decoded
 
@@ -50,7 +49,7 @@ class BranchPair:
         self.source = source
         self.target = target
         self._history = history
-        self._explicit = Explicit(history.records())
+        self._explicit = history.explicit
         question = mergeinfo.Question("merged", is_recursive=True)
         pairs = (source, target), (target, source)
         queries = [query for pair in pairs for query in mergeinfo.queries_of_question(self._explicit, *pair, question)]

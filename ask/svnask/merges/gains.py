@@ -81,9 +81,7 @@ class Tally:
 
     def turn(self, rev: int, value: Rangelists) -> None:
         """Take the mergeinfo from a revision on."""
-        for path in self._value.keys() | value.keys():
-            if self._value.get(path) == value.get(path):
-                continue
+        for path in dict.fromkeys(path for path, _ in self._value.items() ^ value.items()):
             before, after = (Revisions.parse(each.get(path, "")) for each in (self._value, value))
             lost, gained = before - after, after - before - self._own.get(path, NONE)
             for source in self._sources.at(path):
@@ -158,9 +156,11 @@ def joined_gains(held: dict[Life, list[Tallied]]) -> list[Gain]:
     """The revisions that one revision of a target gained of one source, as one gain."""
     found: dict[tuple[Life, int, Life, int | None, bool], list[int]] = {}
     for target, each, is_carried in told_apart(held):
-        found.setdefault((target, each.gained, each.source, each.lost, is_carried), []).extend(each.revisions)
+        key = target, each.gained, each.source, each.lost, is_carried
+        # Most are of one part, whose revisions are not copied.
+        found[key] = sorted(found[key] + each.revisions) if key in found else each.revisions
     gains = [
-        Gain(source, target, rev, sorted(revs), lost, is_carried)
+        Gain(source, target, rev, revs, lost, is_carried)
         for (target, rev, source, lost, is_carried), revs in found.items()
     ]
     return sorted(gains, key=lambda gain: (gain.rev, gain.target, gain.revisions[-1], gain.source))
@@ -184,11 +184,9 @@ def told_apart(held: dict[Life, list[Tallied]]) -> Iterator[tuple[Life, Tallied,
                 yield from halves(target, each, carried.get(each.source, set()))
 
 
-def turns_in(turns: list[int], revisions: list[int]) -> Iterator[int]:
-    """Yield the rising revisions that are among others."""
-    for rev in in_range(turns, revisions[0], revisions[-1]):
-        if in_range(revisions, rev, rev):
-            yield rev
+def turns_in(turns: list[int], revisions: list[int]) -> set[int]:
+    """Return the rising revisions that are among others."""
+    return {*in_range(turns, revisions[0], revisions[-1])}.intersection(revisions)
 
 
 def halves(target: Life, held: Tallied, carried: set[int]) -> Iterator[tuple[Life, Tallied, bool]]:

@@ -45,7 +45,7 @@ class Recorded:
     def __init__(self, history: OpenHistory) -> None:
         self._history, self._explicit = history, history.explicit
         self._values = Values()
-        self._known: dict[Place, Merged] = {}
+        self._known: dict[Place, Merged] = history.memo("recorded")
 
     def of(self, places: Iterable[Place]) -> list[Merged]:
         """Return what each of some places has that was only recorded."""

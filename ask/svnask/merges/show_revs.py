@@ -20,7 +20,9 @@ from svnask.history.targets import Target
 from svnask.log import selection as log
 from svnask.mergeinfo.explicit import Explicit
 from svnask.mergeinfo.values import Run, Value, runs_of, value_of
+from svnask.merges.gains import NONE
 from svnask.paths import is_at_or_below, joined, rest_below, tops_of
+from svnask.revisions import Revisions
 
 # For each path the revisions in which a history was there, and those of them that its log lists.
 Located = dict[bytes, list[range]]
@@ -30,8 +32,8 @@ Listed = dict[bytes, set[int]]
 class Lines(NamedTuple):
     """For each source path its revisions that are inheritable, and those that are not."""
 
-    inheritable: MutableMapping[bytes, set[int]]
-    other: Mapping[bytes, set[int]]
+    inheritable: MutableMapping[bytes, Revisions]
+    other: Mapping[bytes, Revisions]
     # Their paths in order.
     names: list[bytes]
     # For each path at which source and target both were, the revisions then, and the last one in which they were the
@@ -41,7 +43,7 @@ class Lines(NamedTuple):
 
     def with_history(self, own: Listed, last_own: dict[bytes, int]) -> Lines:
         """These and what the target has of a source because it was there itself."""
-        revs = {path: self.inheritable.get(path, set()) | revs for path, revs in own.items()}
+        revs = {path: self.inheritable.get(path, NONE) | Revisions.of(revs) for path, revs in own.items()}
         return Lines(ChainMap(revs, self.inheritable), self.other, self.names, own, last_own)
 
     def at_or_below(self, top: bytes) -> Iterator[bytes]:
@@ -55,8 +57,8 @@ class Lines(NamedTuple):
 
     def newest(self, path: bytes) -> int:
         """The youngest revision that counts as merged from exactly this path, or 0."""
-        revs = max(self.inheritable.get(path, ()), default=0), max(self.other.get(path, ()), default=0)
-        return max(*revs, self.last_own.get(path, 0))
+        ranges = [each for of in (self.inheritable, self.other) for each in of.get(path, NONE).ranges[-1:]]
+        return max([self.last_own.get(path, 0), *(last for _, last in ranges)])
 
 
 class Question(NamedTuple):
@@ -67,12 +69,9 @@ class Question(NamedTuple):
     range: tuple[int, int] | None = None
 
 
-def revisions_of_runs(runs: Iterable[Run], most: int, inheritable: bool) -> set[int]:
-    found: set[int] = set()
-    for run in runs:
-        if run.inheritable == inheritable:
-            found.update(range(run.lo, min(run.hi, most) + 1))
-    return found
+def revisions_of_runs(runs: Iterable[Run], most: int, inheritable: bool) -> Revisions:
+    chosen = (run for run in runs if run.inheritable == inheritable and run.lo <= most)
+    return Revisions((run.lo, min(run.hi, most)) for run in chosen)
 
 
 def lines_of_value(value: Value, most: int) -> Lines:
@@ -133,9 +132,9 @@ def shifted(history: Listed, rest: bytes) -> Listed:
     return {joined(path, rest): revs for path, revs in history.items()}
 
 
-def common_revisions(lines: Mapping[bytes, set[int]], source: Listed) -> set[int]:
+def common_revisions(lines: Mapping[bytes, Revisions], source: Listed) -> set[int]:
     """The revisions that some line has at the place where the source was then."""
-    return set().union(*(lines[path] & revs for path, revs in source.items() if path in lines)) if lines else set()
+    return set().union(*(lines[path].among(sorted(revs)) for path, revs in source.items() if path in lines))
 
 
 def shared(own: Located, source: Listed) -> Listed:
