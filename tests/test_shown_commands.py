@@ -58,6 +58,9 @@ for row in sqlite3.connect(sys.argv[1]).execute(sys.argv[2]):
     ],
     "svn": [
         'case "$*" in',
+        "'checkout -q https://svn.example.org/repo/branches/two work') exec mkdir -p work/.svn ;;",
+        "'info --xml .'*)",
+        "exec echo '<info><entry><url>https://svn.example.org/repo/branches/two</url></entry></info>' ;;",
         "'list URL/branches@17') exec printf '%s/\\n' one three two ;;",
         "'info --xml https://svn.example.org/repo'*)",
         "echo '<info><entry revision=\"19\"><repository><root>https://svn.example.org/repo</root>'",

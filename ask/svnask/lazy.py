@@ -12,4 +12,7 @@ class Lazy:
         self._name = name
 
     def __getattr__(self, name: str) -> Any:
+        # inspect and doctest ask each object for these.
+        if name.startswith("__"):
+            raise AttributeError(name)
         return getattr(importlib.import_module(self._name), name)

@@ -4,7 +4,7 @@ from __future__ import annotations
 from tests.ask import base
 
 # The verbs that print nothing about a history, or that take their questions from elsewhere.
-OTHERS = {"ask", "check-git", "export", "forget", "sources", "stop", "shell"}
+OTHERS = {"ask", "check-git", "export", "forget", "sources", "stop", "shell", "web"}
 # Those that look into the dump itself.
 OF_DUMP = {"record", "byte"}
 ALL = base.commands(

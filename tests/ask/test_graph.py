@@ -559,11 +559,12 @@ class Fitted(base.Case):
         carried = [[copied(b"branches/c%d" % number, b"trunk", 2)] for number in range(80)]
         dump = self.made("dump", parted([changed(B, M)], [copied(b"branches/d", b"trunk", 2)], *carried))
         history = self.history(dump)
-        part = fitted(drawable(history, []), 200)
+        found = drawable(history, [])
+        part = fitted(found, found.graph(found.lanes), 200)
         self.assertEqual((part.lanes[0].kind, {each.kind for each in part.lanes}), ("trunk", {"trunk", "branch"}))
         # The branch with a merge is one of the busiest.
         self.assertIn([b"/" + B], names(part))
-        whole = fitted(drawable(history, []), 10000)
+        whole = fitted(found, found.graph(found.lanes), 10000)
         self.assertEqual((whole.left, len(whole.lanes)), (None, 83))
 
     def test_arrows_are_joined_where_there_are_too_many(self) -> None:

@@ -127,9 +127,15 @@ def parsed(words: list[str]) -> argparse.Namespace:
     found = parser(asked).parse_args(ordered_words(ready), argparse.Namespace(access=Access(access)))
     if found.csv and found.json:
         raise Usage("--csv and --json exclude each other")
-    if found.csv and not verb_named(found.verb).columns:
-        raise Usage(f"{found.verb} prints no table: it is not taken with --csv")
+    if found.csv:
+        need_table(found.verb)
     return found
+
+
+def need_table(verb: str) -> None:
+    """Refuse a verb that prints no table."""
+    if not verb_named(verb).columns:
+        raise Usage(f"{verb} prints no table: it is not taken with --csv")
 
 
 def need_source(words: list[str]) -> None:

@@ -33,6 +33,7 @@ HELP = {
     "sources": "list the sources of which something is kept",
     "serve": "keep the history open, and answer the questions of other calls",
     "stop": "end a 'serve' that runs",
+    "web": "show the history in a browser, and answer questions over HTTP",
     "shell": "answer question after question, one per line",
 }
 

@@ -12,7 +12,19 @@ from svnask.sources.access import IS_URL, REACHED, split_access
 LONG = {"-r": "--revision", "-c": "--change", "-l": "--limit", "-o": "--output"}
 VALUED = frozenset(
     (*LONG.values(), *REACHED, "--into", "--show-revs", "--depth", "--with-revprop", "--search", "--search-and")
-    + ("--since", "--width", "--height", "--below", "--targets", "--in", "--issue", "--rules")
+    + (
+        "--since",
+        "--width",
+        "--height",
+        "--below",
+        "--targets",
+        "--in",
+        "--issue",
+        "--rules",
+        "--link",
+        "--listen",
+        "--larger",
+    )
 )
 # Those that take one only after an equals sign.
 OPTIONAL = frozenset(("--ahead-behind",))

@@ -2,6 +2,8 @@
 from __future__ import annotations
 
 import bisect
+import copy
+import functools
 import os
 import stat
 import threading
@@ -10,7 +12,7 @@ import weakref
 from collections.abc import Callable, Iterable, Iterator, Sequence
 from contextlib import closing
 from types import TracebackType
-from typing import TYPE_CHECKING, BinaryIO, TypeVar
+from typing import TYPE_CHECKING, Any, BinaryIO, TypeVar
 
 from svnask.copy.index import Index
 from svnask.copy.store import Record, Revision, Store
@@ -51,9 +53,32 @@ else:
 
 # So few changes of a revision are looked through one by one.
 FEW = 16
+# How much of what was found under a name is kept.
+MOST_FOUND = 500
 # The longest header that is looked for in a dump.
 HEADER = 1 << 16
 H = TypeVar("H", bound="OpenHistory")
+
+
+class Telling:
+    """The records of a store that made and unmade paths, or gave them mergeinfo. They are read once, for all threads."""
+
+    def __init__(self, store: Store) -> None:
+        self._store = store
+        # What was found by them, under the names of those who did.
+        self.found: dict[str, dict[Any, Any]] = {}
+
+    @functools.cached_property
+    def read(self) -> tuple[Tree, Explicit]:
+        """The paths of all revisions, and the values of their mergeinfo. The records are not kept."""
+        explicit = mergeinfo.Explicit(())
+
+        def applied() -> Iterator[Record]:
+            for record in self._store.telling():
+                explicit.apply(record)
+                yield record
+
+        return lives.Tree(applied()), explicit
 
 
 class OpenHistory:
@@ -86,8 +111,7 @@ class OpenHistory:
         self._changes: dict[int, list[Change]] = {}
         self._keys: dict[int, list[bytes]] = {}
         self._known_blocks: KnownBlocks | None = None
-        self._tree: Tree | None = None
-        self._explicit: Explicit | None = None
+        self._telling = Telling(store)
 
     @classmethod
     def open(
@@ -159,7 +183,8 @@ class OpenHistory:
     def close(self) -> None:
         """End the program that is asked, and remove what was read, unless it is in the cache."""
         self.rest()
-        self._store.close()
+        with self._lock:
+            self._store.close()
         if self._file is not None:
             os.close(self._file)
             self._file = None
@@ -185,6 +210,31 @@ class OpenHistory:
     def begin(self) -> None:
         """Start svnhist, which reads the dump until questions follow."""
         self._talking()
+
+    @property
+    def is_asked(self) -> bool:
+        """Return whether svnhist runs, so that a question need not start it.
+
+        >>> history.check()
+        >>> history.is_asked
+        True
+        """
+        return self._talk is not None and not self._talk.is_over
+
+    def view(self: H) -> H:
+        """The history as it is now, for one more thread. It stays so when the history is renewed, and is closed, too.
+
+        >>> with history.view() as view:
+        ...     view.head
+        13
+        """
+        self._talking().is_shared = True
+        found = copy.copy(self)
+        file = None if self._file is None else os.dup(self._file)
+        vars(found).update(_end=None, _known_blocks=None, _changes={}, _keys={}, _file=file)
+        with self._lock:
+            self._store.share()
+        return found
 
     def renew(self, source: Source, progress: Progress, is_cached: bool = True, is_offline: bool = False) -> None:
         """Go on with the source as it is now, by the name that it is given now."""
@@ -213,13 +263,14 @@ class OpenHistory:
         self._refused = None
         self._changes.clear()
         self._keys.clear()
-        self._tree = self._explicit = None
+        self._telling = Telling(store)
         is_same = os.path.samestat(state, self._state) and len(store.later) >= len(before.later)
         if self._talk is not None and is_same:
             self._talk.grow(store.later[len(before.later) :])
         else:
             self.rest()
-        before.close()
+        with self._lock:
+            before.close()
 
     def rest(self) -> None:
         """End the program that is asked. The next question starts it again."""
@@ -387,17 +438,6 @@ class OpenHistory:
         """
         return self._store.records(first, last)
 
-    def _read_telling(self) -> tuple[Tree, Explicit]:
-        """Read what made and unmade paths, and gave them mergeinfo. The records are not kept."""
-        explicit = mergeinfo.Explicit(())
-
-        def applied() -> Iterator[Record]:
-            for record in self._store.telling():
-                explicit.apply(record)
-                yield record
-
-        return lives.Tree(applied()), explicit
-
     @property
     def tree(self) -> Tree:
         """Return what was at each path of each revision. It is made once.
@@ -405,9 +445,7 @@ class OpenHistory:
         >>> history.tree.exists(b"/branches/one", 7), history.tree.exists(b"/branches/one", 8)
         (True, False)
         """
-        if self._tree is None:
-            self._tree, self._explicit = self._read_telling()
-        return self._tree
+        return self._telling.read[0]
 
     @property
     def explicit(self) -> Explicit:
@@ -416,9 +454,17 @@ class OpenHistory:
         >>> history.explicit.text(b"/trunk", 13) is None
         True
         """
-        if self._explicit is None:
-            self._tree, self._explicit = self._read_telling()
-        return self._explicit
+        return self._telling.read[1]
+
+    def memo(self, name: str) -> dict[Any, Any]:
+        """Return what a part of svnask has found of the history, which all threads share until the history is renewed.
+
+        >>> history.memo("example")
+        {}
+        """
+        if len(self._telling.found.get(name, ())) > MOST_FOUND:
+            del self._telling.found[name]
+        return self._telling.found.setdefault(name, {})
 
     def blocks(self) -> Iterator[tuple[int, Record | None]]:
         """The offset of each block of the dump, and its record, if it has one.
@@ -443,6 +489,13 @@ class OpenHistory:
         """Take what is known of changed paths out of memory. It is read again when it is asked for."""
         self._changes.clear()
         self._keys.clear()
+
+    def release(self) -> None:
+        """Take what was read of the copy out of memory, in which the system may keep it.
+
+        >>> history.release()
+        """
+        self._store.release()
 
     def is_read_from(self, name: str) -> bool:
         """Return whether the dump is the file of a name.

@@ -120,7 +120,7 @@ def renewed(history: OpenHistory, segments: list[Segment]) -> Iterator[int]:
 
 def may_list_more(history: OpenHistory) -> bool:
     """Return whether `svn log` may list revisions of a path other than the root that svnhist does not."""
-    copies = (event.source for _, event in history.tree.copies())
+    copies = (event.source for _, event in history.tree.copies)
     return bool(history.index.renewals) or any(source is not None and source[0] == b"/" for source in copies)
 
 

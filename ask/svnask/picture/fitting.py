@@ -18,9 +18,8 @@ APART = 20
 LANES_OF_PIXEL = 10
 
 
-def fitted(found: Drawable, height: int) -> Graph:
-    """Return the graph of all that has room, with what is left out."""
-    whole = found.graph(found.lanes)
+def fitted(found: Drawable, whole: Graph, height: int) -> Graph:
+    """Return the graph of all that has room, with what is left out of the whole one."""
     most = LANES_OF_PIXEL * height
     full = height_of(whole) if len(found.lanes) <= most else None
     if full is not None and full <= height:

@@ -383,11 +383,12 @@ class Merging:
             if source is not None and target is not None:
                 of, into = (life.path if life in self._parts.wholes else None for life in (gain.source, gain.target))
                 state = gain.lost, gain.is_carried, self._is_record_only(gain)
-                merge = LaneMerge(source, target, gain.rev, [], *state, of, into)
-                found.setdefault((source, target, gain.rev, *state, of, into), merge).revisions.extend(gain.revisions)
-        for merge in found.values():
-            merge.revisions.sort()
-            yield merge
+                key = source, target, gain.rev, *state, of, into
+                # Most merges have one gain, whose revisions are not copied.
+                before = found[key].revisions if key in found else []
+                revisions = sorted(before + gain.revisions) if before else gain.revisions
+                found[key] = LaneMerge(source, target, gain.rev, revisions, *state, of, into)
+        yield from found.values()
 
     def _is_record_only(self, gain: Gain) -> bool:
         place = gain.target, gain.rev

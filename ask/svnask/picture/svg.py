@@ -6,6 +6,7 @@ from html import escape
 from typing import NamedTuple
 
 from svnask.history.open_history import OpenHistory
+from svnask.links import Links
 from svnask.picture.graph import Dot, Graph, LaneCopy, LaneMerge, LeftOut
 from svnask.picture.layout import GAP, TAIL, TOP, LanePlace, Layout
 from svnask.picture.titles import Titles, about_copy, about_end, about_lane, dated
@@ -53,8 +54,9 @@ def points(*values: float) -> str:
     return " ".join(decimal(value) for value in values)
 
 
-def element(title: str, *inner: str) -> str:
-    return "<g><title>%s</title>%s</g>\n" % (escape(title, quote=False), "".join(inner))
+def element(title: str, *inner: str, link: str | None = None) -> str:
+    found = "<g><title>%s</title>%s</g>\n" % (escape(title, quote=False), "".join(inner))
+    return found if link is None else '<a href="%s">%s</a>\n' % (escape(link), found.rstrip("\n"))
 
 
 def text_element(x: float, y: float, content: str, kind: str, anchor: str = "start") -> str:
@@ -68,10 +70,12 @@ def text_element(x: float, y: float, content: str, kind: str, anchor: str = "sta
 
 
 class Picture:
-    """A graph as SVG, piece after piece, from what lies at the back to the front."""
+    """A graph as SVG, piece after piece, from what lies at the back to the front. In a page that has the style it has
+    none of its own."""
 
-    def __init__(self, history: OpenHistory, graph: Graph) -> None:
+    def __init__(self, history: OpenHistory, graph: Graph, links: Links | None, has_style: bool) -> None:
         self._history = history
+        self._links, self._has_style = links, has_style
         self._graph = graph
         self._layout = Layout(graph)
         self._titles = Titles(history, graph)
@@ -110,9 +114,12 @@ class Picture:
         size = width, self._layout.height + self._legend.height + LEGEND_ROW * bool(self._left)
         return (
             '<svg xmlns="http://www.w3.org/2000/svg" width="%d" height="%d" viewBox="0 0 %d %d" role="img">\n'
-            '<desc>%s</desc>\n<style>%s</style>\n<rect width="100%%" height="100%%" fill="#ffffff"/>\n'
-            % (*size, *size, escape(self._about(), quote=False), STYLE)
+            '<desc>%s</desc>\n%s<rect width="100%%" height="100%%" fill="#ffffff"/>\n'
+            % (*size, *size, escape(self._about(), quote=False), f"<style>{STYLE}</style>\n" * self._has_style)
         )
+
+    def _link(self, rev: int) -> str | None:
+        return None if self._links is None else self._links.of_revision(rev)
 
     def _about(self) -> str:
         lanes = self._graph.lanes
@@ -154,12 +161,14 @@ class Picture:
             return element(
                 about_copy(copy),
                 '<path class="stub" stroke="%s" d="M%s H%s"/>' % (colour, points(turn, to.y), decimal(to.x)),
+                link=self._link(copy.life.first),
             )
         path = "M%s C%s H%s" % (points(*start), points(turn, start.y, start.x, to.y, turn, to.y), decimal(to.x))
         return element(
             about_copy(copy),
             '<path class="hit" d="%s"/>' % path,
             '<path class="line" stroke="%s" stroke-width="1.5" d="%s"/>' % (colour, path),
+            link=self._link(copy.life.first),
         )
 
     def _lane(self, number: int) -> str:
@@ -198,6 +207,7 @@ class Picture:
             '<path class="head open" stroke="%s" d="%s"/>' % (colour, head)
             if merge.is_record_only
             else '<path class="head" fill="%s" d="%s"/>' % (colour, head),
+            link=self._link(merge.rev),
         )
 
     def _dot(self, dot: Dot) -> str:
@@ -212,7 +222,7 @@ class Picture:
             "#ffffff" if is_first else colour,
             colour,
         )
-        return element(self._titles.dot(dot), circle)
+        return element(self._titles.dot(dot), circle, link=self._link(dot.revisions[-1]))
 
     def _ends(self) -> Iterator[str]:
         for number, lane in enumerate(self._graph.lanes):
@@ -222,16 +232,19 @@ class Picture:
                     self._colour(number),
                     start,
                 )
-                yield element(about_end(self._history, lane.lives[-1]), mark)
+                end = lane.lives[-1].last + 1
+                yield element(about_end(self._history, lane.lives[-1]), mark, link=self._link(end))
 
     def _names(self) -> Iterator[str]:
         for number, lane in enumerate(self._graph.lanes):
+            last = lane.lives[-1]
+            link = None if self._links is None else self._links.of_path(last.path, last.last)
             if number in self._layout.names:
                 y = self._layout.y(number) + 4
                 name = text_element(self._layout.left - GAP, y, self._layout.names[number], "left", "end")
-                yield element(about_lane(lane), name)
+                yield element(about_lane(lane), name, link=link)
             for place, words in self._layout.names_on_line(number):
-                yield element(about_lane(lane), text_element(place.x + 2, place.y - 7, words, "name"))
+                yield element(about_lane(lane), text_element(place.x + 2, place.y - 7, words, "name"), link=link)
 
     def _kinds(self) -> set[str]:
         """The kinds of marks that the picture has."""
@@ -339,6 +352,6 @@ def chosen(places: list[float], room: float, apart: float) -> list[int]:
     return found + ([last] if last > 0 and places[last] - places[found[-1]] >= room else [])
 
 
-def svg_of(history: OpenHistory, graph: Graph) -> Iterator[bytes]:
+def svg_of(history: OpenHistory, graph: Graph, links: Links | None = None, has_style: bool = True) -> Iterator[bytes]:
     """The file, piece after piece."""
-    return (piece.encode("utf-8") for piece in Picture(history, graph).pieces())
+    return (piece.encode("utf-8") for piece in Picture(history, graph, links, has_style).pieces())

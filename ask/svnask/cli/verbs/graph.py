@@ -9,13 +9,11 @@ from svnask.asking.verb import Object, Verb, add_patterns, counted, object_of_li
 from svnask.errors import Failed, Usage
 from svnask.files import replaced
 from svnask.history.open_history import OpenHistory
-from svnask.history.targets import known, revision_of
-from svnask.picture import fitting, graph, layout
-from svnask.picture import svg as picture
+from svnask.links import Links
+from svnask.picture.options import HEIGHT, WIDTH, drawable_of, drawn_of
+from svnask.picture.svg import svg_of
 
-# The most pixels that the revisions take, and those that the lines take, unless others are given, and the fewest that
-# may be given.
-WIDTH, HEIGHT, FEWEST = graph.MOST_COLUMNS * layout.NARROWEST, 1280, 200
+OF_LINK = "what a mark or a name links to, with {revision} and {path}, as in 'https://host/viewvc?revision={revision}'"
 
 
 class GraphVerb(Verb):
@@ -38,16 +36,15 @@ class GraphVerb(Verb):
             f"and merges that came with another one; {HEIGHT} if it is not given",
         )
         parser.add_argument("--unfolded", action="store_true", help="a line of its own for each branch and tag")
+        parser.add_argument("--link", metavar="ADDRESS", help=OF_LINK)
 
     def text(self, history: OpenHistory, given: Namespace) -> Iterator[bytes]:
         if given.output is not None and history.is_read_from(given.output):
             raise Usage(f"-o {given.output} would overwrite the dump")
         if given.output == "":
             raise Usage("-o takes the name of a file")
-        height = HEIGHT if given.height is None else given.height
-        if height < FEWEST:
-            raise Usage(f"--height takes {FEWEST} pixels or more")
-        pieces = picture.svg_of(history, fitting.fitted(drawable_of(history, given), height))
+        links = None if given.link is None else Links(given.link)
+        pieces = svg_of(history, drawn_of(history, patterns_of(history, given), given).fitted, links)
         if given.output is None:
             yield from pieces
         else:
@@ -60,10 +57,11 @@ class GraphVerb(Verb):
             ("--width", given.width),
             ("--height", given.height),
             ("--unfolded", given.unfolded or None),
+            ("--link", given.link),
         ):
             if value is not None:
                 raise Usage(f"{option} is for the picture: --json prints objects")
-        whole = drawable_of(history, given)
+        whole = drawable_of(history, patterns_of(history, given), given)
         found = whole.graph(whole.lanes)
         for number, lane in enumerate(found.lanes):
             lives = [object_of_life(life) for life in lane.lives]
@@ -83,15 +81,6 @@ class GraphVerb(Verb):
                 "of": shown(merge.of),
                 "into": shown(merge.into),
             }
-
-
-def drawable_of(history: OpenHistory, given: Namespace) -> graph.Drawable:
-    since = 0 if given.since is None else known(history, revision_of(history, given.since))
-    width = WIDTH if given.width is None else given.width
-    if width < FEWEST:
-        raise Usage(f"--width takes {FEWEST} pixels or more")
-    view = graph.View(since, given.by_time, width // layout.NARROWEST, not given.unfolded)
-    return graph.drawable(history, patterns_of(history, given), view)
 
 
 def write(name: str, pieces: Iterable[bytes]) -> None:

@@ -1,0 +1,137 @@
+"""The answers of verbs to the queries of addresses: `path=trunk&limit=5` is `--limit=5 trunk`."""
+from __future__ import annotations
+
+import shlex
+import time
+from argparse import SUPPRESS, Action, Namespace
+from collections.abc import Callable, Iterator, Mapping, Sequence
+from functools import partial
+from typing import TypeVar, cast
+
+from svnask.asking import running
+from svnask.asking.parser import need_table, parser_of_verb
+from svnask.asking.verb import Object
+from svnask.asking.verbs import verb_named
+from svnask.errors import Unsound, Usage
+from svnask.history.open_history import OpenHistory
+from svnask.web.renewed import KeptAnswer, KeptAnswers
+
+# The verbs that only read a history.
+VERBS = tuple(
+    "log show mergeinfo check-mergeinfo propget where segments heirs branches contains unmerged new changed-tags graph "
+    "migration record byte info".split()
+)
+# What reads or writes a file of the host, and what an address says by itself.
+OF_FILES = ("output", "targets", "help", "link")
+# What is said of the source, and so of each question.
+COMMON = ("dump", "access", "below", "offline", "no_cache")
+# How many seconds a page waits for what takes long to find.
+PATIENCE = 1.0
+T = TypeVar("T")
+
+
+def name_of(action: Action) -> str:
+    """Return by which name an address has an option or an argument: that which the help of the verb shows."""
+    longest = max(action.option_strings, key=len, default="")
+    shown = str(action.metavar if isinstance(action.metavar, str) else action.dest)
+    return longest.lstrip("-") or shown.partition("[")[0].lower()
+
+
+def words_of(verb: str, query: Mapping[str, Sequence[str]]) -> list[str]:
+    """Return the options and arguments that a query has, as words after a verb."""
+    if verb not in VERBS:
+        raise Usage(f"there is no question {verb}")
+    left = dict(query)
+    options: list[str] = []
+    arguments: list[str] = []
+    for action in parser_of_verb(verb).actions:
+        name = name_of(action)
+        if action.help == SUPPRESS or name in OF_FILES or name not in left:
+            continue
+        values = left.pop(name)
+        if not action.option_strings:
+            arguments += values
+        elif action.nargs == 0:
+            options.append(f"--{name}")
+        else:
+            options += [f"--{name}={value}" for value in values]
+    for name in left:
+        raise Usage(f"{verb} takes no {name}")
+    return [*options, *["--"] * bool(arguments), *arguments]
+
+
+class Asked:
+    """The history that a request is about, for the thread that answers it."""
+
+    def __init__(self, given: Namespace, answers: KeptAnswers, history: OpenHistory) -> None:
+        self.history = history
+        self.source: str = given.dump
+        # What is to be known beside the answers.
+        self.notes: list[str] = []
+        # Whether something is still to be found, so that the page has to be read again.
+        self.is_waiting = False
+        history.notice = self.notes.append
+        self._given, self._answers = given, answers
+        self._end = time.monotonic() + PATIENCE
+
+    def given(self, verb: str, words: Sequence[str], is_json: bool = True, is_csv: bool = False) -> Namespace:
+        """Return what some words after a verb say."""
+        if is_csv:
+            need_table(verb)
+        common = {name: getattr(self._given, name) for name in COMMON}
+        common.update(verb=verb, json=is_json, csv=is_csv)
+        return parser_of_verb(verb).parse_args(list(words), Namespace(**common))
+
+    def lines(self, given: Namespace) -> Iterator[bytes]:
+        """Yield what the command prints."""
+        try:
+            yield from running.answer_lines(self.history, given)
+        except Unsound:
+            # What was found is what was asked for.
+            return
+
+    def objects(self, verb: str, *words: str) -> Iterator[Object]:
+        """Yield the objects of an answer."""
+        try:
+            yield from verb_named(verb).objects(self.history, self.given(verb, words))
+        except Unsound:
+            return
+
+    def has(self, name: str) -> bool:
+        """Return whether an answer is kept about the history as it is."""
+        return self._answers.has(name, self.history.index)
+
+    def kept(
+        self, name: str, make: Callable[[Asked], T], is_needed: bool = False, among: KeptAnswers | None = None
+    ) -> T | None:
+        """Return an answer that takes long to find, and is found once. It is about an older state of the history, or
+        there is none, where it is not found in time, unless a page is nothing without it."""
+        patience = None if is_needed else max(self._end - time.monotonic(), 0)
+        begin = partial(self._begun, make)
+        found = (among or self._answers).of(name, self.history.index, begin, patience)
+        self.is_waiting |= found is None or found.of is not self.history.index
+        if found is None:
+            return None
+        if found.error is not None:
+            raise found.error
+        self.notes += found.notes
+        return cast(T, found.value)
+
+    def _begun(self, make: Callable[[Asked], object]) -> Callable[[], KeptAnswer]:
+        """Return what another thread does to make an answer about the history as it is now."""
+        view = self.history.view()
+
+        def made() -> KeptAnswer:
+            with view:
+                asked = Asked(self._given, self._answers, view)
+                try:
+                    return KeptAnswer(make(asked), asked.notes, None, view.index)
+                except Exception as error:  # pylint: disable=broad-exception-caught
+                    return KeptAnswer(None, [], error, view.index)
+
+        return made
+
+    def command(self, *words: str) -> str:
+        """Return the command line that says the same as a page."""
+        named = [self.source, *["--below", self._given.below] * bool(self._given.below)]
+        return shlex.join(["svnask", *named, *words])

@@ -1,0 +1,98 @@
+"""The page of all branches and tags, with their picture."""
+from __future__ import annotations
+
+from itertools import groupby
+from typing import NamedTuple
+
+from markupsafe import Markup
+from svnask.asking.verb import Object
+from svnask.picture.graph import Graph
+from svnask.picture.options import HEIGHT, drawn_of
+from svnask.picture.svg import svg_of
+from svnask.projects import trunk_of
+from svnask.texts import encoded
+from svnask.web.asked import Asked
+from svnask.web.request import Request
+from svnask.web.site import OwnLinks, Page, address
+
+TABLE = ("branches", "--ahead-behind=", "--log")
+# What may be chosen of the picture.
+CHOSEN = ("since", "height", "width")
+
+
+def overview(asked: Asked, request: Request) -> Page:
+    """Return the branches and tags by their projects, and the picture that a query chooses."""
+    chosen = {name: request.value(name) for name in CHOSEN if request.value(name)}
+    flags = [name for name in ("by-time", "unfolded") if name in request.query]
+    words = ["graph", *(f"--{name}={value}" for name, value in chosen.items()), *(f"--{name}" for name in flags)]
+    rows = rows_of(asked)
+    of_picture = {**chosen, **{name: "1" for name in flags}}
+    picture = picture_of(asked, words, request.root)
+    left = None if picture is None else picture.left
+    values = {
+        "projects": None if rows is None else by_project(rows),
+        "compared": lambda row, trunk: address(f"{request.root}/compare", from_=trunk, to=row["path"]),
+        "picture": picture and picture.svg,
+        "chosen": of_picture,
+        "height": HEIGHT,
+        "needed": left,
+        "more": left and address(request.root + "/", **{**of_picture, "height": str(left)}) + "#picture",
+    }
+    commands = [asked.command("branches", "--ahead-behind", "--log"), asked.command(*words)]
+    addresses = [
+        address(f"{request.root}/api/branches", ahead_behind="", log="1"),
+        address(f"{request.root}/api/graph", since=chosen.get("since")),
+    ]
+    return Page("overview.html", "Branches and tags", commands, addresses, values)
+
+
+def rows_of(asked: Asked) -> list[Object] | None:
+    """Return the branches and tags, at first perhaps without how far they are from their trunks."""
+    plain = None
+    if not asked.has("counted"):
+        plain = asked.kept("branches", lambda about: list(about.objects("branches", "--log")))
+    return asked.kept("counted", lambda about: list(about.objects(*TABLE))) or plain
+
+
+class Picture(NamedTuple):
+    """A picture, how high one is that leaves nothing out of it, and the graph of all."""
+
+    svg: Markup
+    left: int | None
+    whole: Graph
+
+
+class ProjectRows(NamedTuple):
+    """The directory of a project, its trunk of today, and its branches and tags with that."""
+
+    path: str
+    trunk: str | None
+    rows: list[Object]
+
+
+def by_project(rows: list[Object]) -> list[ProjectRows]:
+    """Return the projects, each with what there is today first, and the trunk before all others."""
+
+    def directory(row: Object) -> str:
+        trunk = trunk_of(encoded(row["path"]))
+        return "/" if trunk is None else trunk.decode("utf-8", "surrogateescape").rpartition("/")[0] or "/"
+
+    ordered = sorted(rows, key=lambda row: (directory(row), row["kind"] != "trunk", not row["is_alive"], row["path"]))
+    projects = ((name, list(found)) for name, found in groupby(ordered, directory))
+    return [ProjectRows(name, trunk_in(found), found) for name, found in projects]
+
+
+def trunk_in(rows: list[Object]) -> str | None:
+    """Return the path of the trunk of today that some rows have."""
+    return next((row["path"] for row in rows if row["kind"] == "trunk" and row["is_alive"]), None)
+
+
+def picture_of(asked: Asked, words: list[str], root: str) -> Picture | None:
+    """Return the picture by some options, whose marks link to pages."""
+    return asked.kept(f"{root} {words}", lambda about: drawn(about, words, root))
+
+
+def drawn(asked: Asked, words: list[str], root: str) -> Picture:
+    whole, fitted = drawn_of(asked.history, [], asked.given(words[0], words[1:], is_json=False))
+    pieces = svg_of(asked.history, fitted, OwnLinks(root), has_style=False)
+    return Picture(Markup(b"".join(pieces).decode("utf-8")), None if fitted.left is None else fitted.left.height, whole)

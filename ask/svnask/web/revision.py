@@ -1,0 +1,77 @@
+"""The page of a revision: what it changed, who has it, and where it was merged."""
+from __future__ import annotations
+
+import bisect
+from typing import NamedTuple
+
+from svnask.history.lives import Life
+from svnask.picture.graph import Graph, LaneMerge
+from svnask.texts import decoded
+from svnask.web.asked import Asked
+from svnask.web.overview import picture_of
+from svnask.web.request import Request
+from svnask.web.site import Page, address
+
+# How many changed paths a page has.
+MOST_PATHS = 1000
+
+
+class Arrow(NamedTuple):
+    """A merge: the revision that made it, from where and into what, and how it counts."""
+
+    rev: int
+    source: str
+    target: str
+    revisions: list[int]
+    how: str
+
+
+def revision(asked: Asked, request: Request) -> Page:
+    """Return a revision, and what else is known of it."""
+    text = request.parts[1] if len(request.parts) == 2 else ""
+    (found,) = asked.objects("show", "--", text)
+    rev = found["revision"]
+    # The picture of all is that of the first page.
+    picture = picture_of(asked, ["graph"], request.root)
+    here, there = ([], []) if picture is None else arrows_of(picture.whole, rev)
+    values = {
+        "rev": rev,
+        "found": found,
+        "changes": found["changes"][:MOST_PATHS],
+        "more": max(len(found["changes"]) - MOST_PATHS, 0),
+        "holders": list(asked.objects("contains", "--", str(rev))) if rev else [],
+        "merged_here": here,
+        "merged_there": there,
+    }
+    commands = [asked.command("show", str(rev)), asked.command("contains", str(rev)), asked.command("graph")]
+    addresses = [address(f"{request.root}/api/{verb}", rev=rev) for verb in ("show", "contains")]
+    return Page("revision.html", f"r{rev}", commands, addresses, values)
+
+
+def arrows_of(graph: Graph, rev: int) -> tuple[list[Arrow], list[Arrow]]:
+    """Return what was merged in a revision, but for what another merge carried along, and where it was merged."""
+    here = [arrow_of(graph, each) for each in graph.merges if each.rev == rev and not each.is_carried]
+    return here, [arrow_of(graph, each) for each in graph.merges if has_merged(each, rev)]
+
+
+def has_merged(merge: LaneMerge, rev: int) -> bool:
+    at = bisect.bisect_left(merge.revisions, rev)
+    return at < len(merge.revisions) and merge.revisions[at] == rev
+
+
+def arrow_of(graph: Graph, merge: LaneMerge) -> Arrow:
+    """Return a merge by the paths that its branches had then."""
+    source = merge.of or life_of(graph, merge.source, merge.revisions[-1]).path
+    target = merge.into or life_of(graph, merge.target, merge.rev).path
+    parts = [
+        *["only recorded"] * merge.is_record_only,
+        *["with another merge"] * merge.is_carried,
+        *([] if merge.lost is None else [f"taken back in r{merge.lost}"]),
+    ]
+    return Arrow(merge.rev, decoded(source), decoded(target), merge.revisions, ", ".join(parts) or "merged")
+
+
+def life_of(graph: Graph, lane: int, rev: int) -> Life:
+    """Return the life of a lane that has a revision, or else its last one."""
+    lives = graph.lanes[lane].lives
+    return next((life for life in lives if life.has(rev)), lives[-1])
