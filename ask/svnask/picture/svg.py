@@ -295,9 +295,9 @@ MARKS = (
     (
         "cut",
         '<path class="line" stroke-width="2.5" d="M4 0 H16"/><path class="tail" d="M16 0 H30"/>',
-        "still there, no longer changed",
+        "still exists, is no longer changed",
     ),
-    ("merged", arrow_mark("merged"), "merged, from the newest revision of those"),
+    ("merged", arrow_mark("merged"), "merged (from the newest merged revision)"),
     ("lost", arrow_mark("lost"), "merged, and taken back later"),
     ("carried", arrow_mark("carried"), "came with another merge"),
     (
