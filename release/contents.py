@@ -24,6 +24,13 @@ SUFFIXES = (".py", ".html", ".css", ".js", ".svg")
 MODULE = "usr/lib/python3/dist-packages/svnask/"
 PAGES = "usr/share/doc/svnhist/"
 EXAMPLE = re.compile(r"(?:examples|interop)/[\w-]+\.(?:dump|bundle|queries|report)")
+# The sections for those who have the sources, which a release leaves out.
+OF_SOURCES = {
+    "docs/README.md": ["You want to change it"],
+    "docs/building.md": ["What the launcher does", "Call it from Rattle"],
+}
+HEADING = re.compile(r"^(?=#+ )", re.MULTILINE)
+TAKEN = re.compile(r"^\{\{(.+)\}\}$", re.MULTILINE)
 LINK = re.compile(r"(!?)\[([^\]]*)\]\(([^)\s#]*)(#[^)\s]*)?\)")
 
 
@@ -75,6 +82,27 @@ def names_of_pages() -> list[str]:
     return ["README.md", "SECURITY.md", *(f"docs/{name}" for name in below if name not in FOR_DEVELOPERS)]
 
 
+def sections(page: str) -> dict[str, str]:
+    """The sections of a page by their headings. Each ends before the next heading."""
+    return {each.partition("\n")[0].lstrip("# "): each for each in HEADING.split(page)}
+
+
+def readme() -> str:
+    """The README of a release: its own text, with sections of that of the source tree."""
+    taken = sections(read("README.md").decode("utf-8"))
+    return TAKEN.sub(lambda found: taken[found[1]].strip(), read("release/readme.md").decode("utf-8"))
+
+
+def page_of(name: str) -> str:
+    """A page as a release has it."""
+    if name == "README.md":
+        return readme()
+    kept = sections(read(name).decode("utf-8"))
+    for heading in OF_SOURCES.get(name, []):
+        del kept[heading]
+    return "".join(kept.values())
+
+
 def examples(names: Iterable[str]) -> list[File]:
     """The examples that pages name, and the script that they call."""
     found = sorted({name for page in names for name in EXAMPLE.findall(read(page).decode("utf-8", "replace"))})
@@ -99,10 +127,8 @@ def pages(others: list[str]) -> list[File]:
     kept = examples(names)
     paths = names + others + [file.path for file in kept]
     for name in names:
-        text = read(name)
-        if name.endswith(".md"):
-            text = with_live_links(name, text.decode("utf-8"), paths).encode("utf-8")
-        kept.append(File(name, text))
+        is_page = name.endswith(".md")
+        kept.append(File(name, with_live_links(name, page_of(name), paths).encode("utf-8") if is_page else read(name)))
     return [*kept, File(reference.NAME, reference.page())]
 
 

@@ -14,7 +14,7 @@ from collections.abc import Sequence
 from dev.tree import ROOT
 from release.archives import filled
 from release.contents import COMPLETIONS, MANUALS, File, Parts, completion, in_folder, manual, module, programs, read
-from release.contents import version, with_live_links
+from release.contents import readme, version, with_live_links
 
 NAME = "svnhist"
 # The programs need no library, so they run with any C library. What they need is Linux 3.2, which is older than each
@@ -39,9 +39,9 @@ def licences(parts: Parts) -> list[File]:
 
 
 def metadata(parts: Parts) -> bytes:
-    readme = with_live_links("README.md", read("README.md").decode("utf-8"), [])
+    shown = with_live_links("README.md", readme(), [])
     lines = "\n".join(f"License-File: {file.path}" for file in licences(parts))
-    return filled("metadata", {"NAME": NAME, "VERSION": version(), "LICENCES": lines, "README": readme})
+    return filled("metadata", {"NAME": NAME, "VERSION": version(), "LICENCES": lines, "README": shown})
 
 
 def form() -> bytes:

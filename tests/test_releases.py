@@ -23,7 +23,7 @@ from dev.running import Limits, Outcome, run
 from dev.tree import ROOT, Programs
 from release import reference
 from release.archives import package, tarball
-from release.contents import LINK, MANUALS, Parts, of_package, of_tarball, version
+from release.contents import LINK, MANUALS, Parts, of_package, of_tarball, readme, version
 from release.program import PROGRAMS, Program
 from release.wheel import name_of_wheel, of_wheel, title, wheel
 from svnask import __all__ as public_names
@@ -36,9 +36,10 @@ LICENCES = {"LGPL-2.1": b"The text of the licence.\n"}
 BUILT_USING = "glibc (= 2.36-9)"
 CHANGELOG = b"svnhist (0) unstable; urgency=medium\n"
 # The pages that name files of a release.
-NAMING = ("README.md", "docs/building.md")
+NAMING = ("README.md", "release/readme.md", "docs/building.md")
 NAMED = re.compile(r"svnhist[-_](\d+(?:\.\d+)+)")
 NEWEST = re.compile(r"^## \[(.*)\] - \d{4}-\d\d-\d\d$", re.MULTILINE)
+LONGEST_README = 160
 LOG = b"r5 /trunk\nr2 /trunk\nr1 /trunk\n"
 DUMP = "interop/branches.dump"
 # pip asks nobody and takes no settings.
@@ -85,6 +86,11 @@ class Versions(Checks):
     def test_the_pages_name_the_files_of_this_version(self) -> None:
         for page in NAMING:
             self.compare(page, {version()}, set(NAMED.findall((ROOT / page).read_text("utf-8"))))
+
+    def test_a_readme_is_short(self) -> None:
+        for page in ((ROOT / "README.md").read_text("utf-8"), readme()):
+            self.assertLessEqual(len(page.splitlines()), LONGEST_README)
+            self.assertNotIn("{{", page)
 
     def test_the_changelog_begins_with_this_version(self) -> None:
         newest = NEWEST.search((ROOT / "CHANGELOG.md").read_text("utf-8"))

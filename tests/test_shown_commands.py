@@ -91,8 +91,10 @@ LIMITS = Limits(seconds=600)
 Environment = Mapping[str, Optional[str]]
 
 
-def blocks_of(page: str) -> list[str]:
-    text = (ROOT / page).read_text("utf-8")
+def blocks_of(page: str, root: Path) -> list[str]:
+    """Return the blocks of commands of a page. The folder of a release has pages of its own."""
+    own = root / page
+    text = (own if own.exists() else ROOT / page).read_text("utf-8")
     if not page.endswith(".1"):
         return CONSOLE.findall(text)
     return [block.replace(r"\-", "-").replace(r"\(ha", "^").replace(r"\e", "\\") for block in EXAMPLE.findall(text)]
@@ -144,7 +146,7 @@ class ShownCommands(ProgramTest):
             if not self.output_of(f"{name} --version", root, environment).startswith(version)
         ]
         for page in PAGES:
-            for block in blocks_of(page):
+            for block in blocks_of(page, root):
                 lacking = [name for name in missing if re.search(rf"^\$ (?:.* \| )?{name} ", block, re.MULTILINE)]
                 if lacking:
                     with self.subTest(page):
