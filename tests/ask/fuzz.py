@@ -155,7 +155,7 @@ def words_of(chance: random.Random, folder: Path) -> list[str]:
             ["where", target(), revision], ["segments", target()],
             ["branches", *patterns, *some("--ahead-behind", "--ahead-behind=" + target(), "--log")],
             ["contains", revision, *patterns, *some(revision, "-r" + bounds, "--search=" + target(), "--in=" + target(), "--log")], ["info"], ["migration", *some("--authors-file", "--rules=svn-all-fast-export")], ["unmerged", *patterns, *some("--into=" + target())],
-            ["changed-tags", *patterns, *some("--log")], ["graph", *patterns, *some("--since=" + revision, "--by-time", "--width=" + number, "--height=" + number, "--unfolded")], ["record", number], ["byte", number],
+            ["changed-tags", *patterns, *some("--log")], ["graph", *patterns, *some("--since=" + revision, "--until=" + revision, "--by-time", "--width=" + number, "--height=" + number, "--unfolded")], ["record", number], ["byte", number],
             ["ask", str(folder / "queries")], ["update", *some("--properties")], ["forget"], ["sources"], ["stop"],
             ["serve", "--stop-after=0"], ["shell"],
         )

@@ -112,12 +112,13 @@ class Words(CompletionTest):
         rows = (
             "log; log trunk; log -r 5; log -v --limit 3; mergeinfo; mergeinfo trunk; where; segments; heirs; branches; "
             "branches trunk; contains 3; unmerged; unmerged --into; unmerged trunk --into trunk; new; new trunk; graph; "
-            "graph --since 3 --width 300 --height 300; changed-tags; check-mergeinfo; propget svn:mergeinfo -R trunk; log --"
+            "graph --since 3 --until 9 --width 300 --height 300; changed-tags; check-mergeinfo; "
+            "propget svn:mergeinfo -R trunk; log --"
         )
         for row in base.commands(rows):
             self.compare(" ".join(row), PATHS, self.words(DUMP, *row, ""))
         for row in base.commands(
-            "where trunk; show; contains; record; info; update; graph --since; log -r; log --search"
+            "where trunk; show; contains; record; info; update; graph --since; graph --until; log -r; log --search"
         ):
             self.compare(" ".join(row), [], self.words(DUMP, *row, ""))
 

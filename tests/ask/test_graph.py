@@ -36,6 +36,7 @@ from svnask.picture.layout import NARROWEST, Layout, shortened, width_of
 from svnask.picture.svg import arrows_of
 from svnask.texts import readable
 from tests.ask import base
+from tests.ask.drawn_repositories import drawn as drawn_dump
 
 F, B, D = b"trunk/f", b"branches/b", b"/trunk/d"
 # The mergeinfo of all changes of the trunk since it was copied.
@@ -312,6 +313,18 @@ class Views(base.Case):
             self.assertEqual(part.columns[0], max(since - 1, 1))
         self.assertLess(len(self.graph(View(since=200)).lanes), 30)
 
+    def test_the_graph_until_a_revision_is_that_of_an_older_dump(self) -> None:
+        patterns = [b"/trunk*", b"/b*", b"/tags/*", b"/branches/*"]
+        for seed in range(15):
+            text = drawn_dump(seed)
+            whole = self.history(self.made("whole", text))
+            for rev in range(1, whole.head, 3):
+                older = self.history(self.made("older", text.partition(b"Revision-number: %d\n" % (rev + 1))[0]))
+                # Some patterns match nothing in some of them.
+                whole.notice = older.notice = lambda text: None
+                graph = graph_of(whole, patterns, View(until=rev))._replace(view=View())
+                self.assertEqual(graph, graph_of(older, patterns), (seed, rev))
+
     def test_a_column_is_a_part_of_the_time(self) -> None:
         days = (1, 2, 2, 20, 21, 31)
         revisions = [Revision(0, (), revision_properties(b"", b"", b"2024-01-01T00:00:00.000000Z"))]
@@ -484,7 +497,10 @@ class Verb(base.Case):
             (["--since", "7"], 0, ""),
             (["--since", "{2024-01-01T00:07:30Z}", "--by-time"], 0, ""),
             (["--since", "HEAD", "--width", "200", "--unfolded"], 0, ""),
+            (["--until", "7", "--since", "7"], 0, ""),
+            (["--until", "6", "--since", "7"], 2, "--until is an older revision than --since"),
             (["--since", "20"], 1, "E160006"),
+            (["--until", "20"], 1, "E160006"),
             (["--since", "x"], 1, "E205000"),
             (["--width", "199"], 2, "--width takes 200 pixels or more"),
             (["--width", "-5"], 2, "--width"),

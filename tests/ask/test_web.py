@@ -572,7 +572,7 @@ def mutated(chance: random.Random) -> str:
     )
     if chance.random() < 0.3:
         front += "/" + chance.choice(words)
-    names = "rev path target from to q before search merged since height limit pattern revision x".split()
+    names = "rev path target from to q before search merged since until height limit pattern revision x".split()
     asked_of = [
         (chance.choice(names), chance.choice(words) + chance.choice(fuzz.PEGS)) for _ in range(chance.randrange(4))
     ]

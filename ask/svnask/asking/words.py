@@ -14,6 +14,7 @@ VALUED = frozenset(
     (*LONG.values(), *REACHED, "--into", "--show-revs", "--depth", "--with-revprop", "--search", "--search-and")
     + (
         "--since",
+        "--until",
         "--width",
         "--height",
         "--below",

@@ -360,6 +360,13 @@ def lives_at(tree: Tree, paths: Iterable[bytes], head: int) -> list[Life]:
     return [life for path in sorted(paths, key=components) for life in tree.lives(path, head)]
 
 
+def as_of(lives: Iterable[Life], rev: int) -> Iterator[Life]:
+    """Yield lives as they were in a revision."""
+    for life in lives:
+        if life.first <= rev:
+            yield life if life.last < rev else life._replace(last=rev, is_alive=True)
+
+
 def unmatched(tree: Tree, patterns: Sequence[bytes], head: int) -> Iterator[bytes]:
     """The patterns that no path ever matched."""
     for pattern in patterns:

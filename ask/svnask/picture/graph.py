@@ -16,7 +16,7 @@ from typing import NamedTuple
 from svnask.branches import questions as branches
 from svnask.engine.queries import Answer, LocationSegments, Mergeinfo, Query, is_askable
 from svnask.history import dates
-from svnask.history.lives import Life, Tree
+from svnask.history.lives import Life, Tree, as_of
 from svnask.history.open_history import OpenHistory
 from svnask.mergeinfo.explicit import Explicit
 from svnask.mergeinfo.values import line_of, lines_of
@@ -73,10 +73,11 @@ class Dot(NamedTuple):
 
 
 class View(NamedTuple):
-    """The part of a history that is drawn: its first revision, whether columns are parts of the time, how many there
-    are at most, and whether lanes that end leave room for others."""
+    """The part of a history that is drawn: its first and its last revision, or the youngest one, whether columns are
+    parts of the time, how many there are at most, and whether lanes that end leave room for others."""
 
     since: int = 0
+    until: int | None = None
     is_by_time: bool = False
     most: int = MOST_COLUMNS
     is_folded: bool = True
@@ -141,8 +142,9 @@ def graph_of(history: OpenHistory, patterns: Sequence[bytes], view: View = View(
 def drawable(history: OpenHistory, patterns: Sequence[bytes], view: View = View()) -> Drawable:
     """Return what can be drawn of the lives of all paths that match a pattern."""
     tree, explicit = history.tree, history.explicit
-    lives = branches.lives_of(history, patterns)
-    parts = Parts(tree, explicit, Finder(lives), history.head)
+    until = history.head if view.until is None else view.until
+    lives = list(as_of(branches.lives_of(history, patterns), until))
+    parts = Parts(tree, explicit, Finder(lives), until)
     asked = [LifeQuery(life, query) for life in lives for query in merges.queries_about_life(explicit, life)] + list(
         parts.asked()
     )
@@ -278,7 +280,8 @@ class Parts:
 
     def _lives_of(self, path: bytes) -> list[Life]:
         if path not in self._lives:
-            self._lives[path] = list(self._tree.lives(path, self._head)) if is_askable(path) else []
+            lives = self._tree.lives(path, self._head) if is_askable(path) else []
+            self._lives[path] = list(as_of(lives, self._head))
         return self._lives[path]
 
     def asked(self) -> Iterator[LifeQuery]:

@@ -17,11 +17,15 @@ WIDTH, HEIGHT, FEWEST = graph.MOST_COLUMNS * layout.NARROWEST, 1280, 200
 
 def drawable_of(history: OpenHistory, patterns: Sequence[bytes], given: Namespace) -> graph.Drawable:
     """Return what can be drawn of the paths that match some patterns."""
-    since = 0 if given.since is None else known(history, revision_of(history, given.since))
+    since, until = (
+        None if each is None else known(history, revision_of(history, each)) for each in (given.since, given.until)
+    )
+    if since is not None and until is not None and until < since:
+        raise Usage("--until is an older revision than --since")
     width = WIDTH if given.width is None else given.width
     if width < FEWEST:
         raise Usage(f"--width takes {FEWEST} pixels or more")
-    view = graph.View(since, given.by_time, width // layout.NARROWEST, not given.unfolded)
+    view = graph.View(since or 0, until, given.by_time, width // layout.NARROWEST, not given.unfolded)
     return graph.drawable(history, patterns, view)
 
 

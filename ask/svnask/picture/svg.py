@@ -125,7 +125,9 @@ class Picture:
         lanes = self._graph.lanes
         tags = sum(lane.kind == TAG for lane in lanes)
         merged = sum(not merge.is_carried for merge in self._graph.merges)
-        counts = len(lanes) - tags, tags, self._graph.view.since, self._history.head, len(self._graph.copies), merged
+        view = self._graph.view
+        until = self._history.head if view.until is None else view.until
+        counts = len(lanes) - tags, tags, view.since, until, len(self._graph.copies), merged
         return (
             "%d branches and %d tags from r%d to r%d, with %d copies and %d merges. " % counts
             + "Each line is a branch or a tag, from left to right its revisions; curves are copies, arrows are merges."

@@ -17,7 +17,7 @@ from svnask.web.site import OwnLinks, Page, address
 
 TABLE = ("branches", "--ahead-behind=", "--log")
 # What may be chosen of the picture.
-CHOSEN = ("since", "height", "width")
+CHOSEN = ("since", "until", "height", "width")
 
 
 def overview(asked: Asked, request: Request) -> Page:
@@ -41,7 +41,7 @@ def overview(asked: Asked, request: Request) -> Page:
     commands = [asked.command("branches", "--ahead-behind", "--log"), asked.command(*words)]
     addresses = [
         address(f"{request.root}/api/branches", ahead_behind="", log="1"),
-        address(f"{request.root}/api/graph", since=chosen.get("since")),
+        address(f"{request.root}/api/graph", since=chosen.get("since"), until=chosen.get("until")),
     ]
     return Page("overview.html", "Branches and tags", commands, addresses, values)
 

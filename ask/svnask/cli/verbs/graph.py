@@ -21,6 +21,7 @@ class GraphVerb(Verb):
         add_patterns(parser, "**")
         parser.add_argument("-o", "--output", metavar="FILE", help="where to write it, in place of the standard output")
         parser.add_argument("--since", metavar="REV", help="the first revision that is drawn, or its {DATE}")
+        parser.add_argument("--until", metavar="REV", help="the last revision that is drawn, or its {DATE}")
         parser.add_argument("--by-time", action="store_true", help="place revisions by their time, not by their number")
         parser.add_argument(
             "--width",
