@@ -6,19 +6,10 @@ from typing import NamedTuple
 
 from svnask.copy.changes import Change
 from svnask.engine.queries import Log, is_askable
-from svnask.history.lives import Tree
 from svnask.history.open_history import OpenHistory
-from svnask.mergeinfo.values import Run
+from svnask.masks import mask_of_revisions, revisions_in
 from svnask.merges.value_changes import MalformedValue, Values
 from svnask.paths import is_at_or_below, joined, rest_below
-
-
-class NamedPart(NamedTuple):
-    """Revisions of a source path that a value names, as far as one life of that path has them."""
-
-    path: bytes
-    query: Log
-    inheritable: bool
 
 
 class AskedOrigin(NamedTuple):
@@ -27,16 +18,6 @@ class AskedOrigin(NamedTuple):
     changed: bytes
     path: bytes
     query: Log
-
-
-def queries_of_source(tree: Tree, head: int, path: bytes, runs: Iterable[Run]) -> Iterator[NamedPart]:
-    """The queries for the operative revisions of a source path in the revisions that a value names."""
-    lives = list(tree.lives(path, head))
-    for run in runs:
-        for life in lives:
-            lo, hi = max(run.lo, life.first), min(run.hi, life.last)
-            if lo <= hi:
-                yield NamedPart(path, Log(path, hi, (lo, hi)), run.inheritable)
 
 
 def is_copy_alone(changes: list[Change]) -> bool:
@@ -57,22 +38,22 @@ class Bringing:
     def __init__(self, history: OpenHistory) -> None:
         self._history = history
         self._values = Values()
-        # The revisions that were looked at, and those of them that bring something.
-        self._known, self._found = {0}, set[int]()
+        # The sets of the revisions that were looked at, and of those of them that bring something.
+        self._known, self._found = 1, 0
 
-    def among(self, asked: set[int]) -> set[int]:
-        """Return those that bring something."""
-        new = asked - self._known
+    def among(self, asked: int) -> int:
+        """Return the set of those that bring something."""
+        new = asked & ~self._known
         if new:
             self._known |= new
-            self._found |= self._bringing(new)
+            self._found |= mask_of_revisions(self._bringing(revisions_in(new)))
         return asked & self._found
 
-    def _bringing(self, asked: set[int]) -> set[int]:
+    def _bringing(self, asked: Iterable[int]) -> set[int]:
         """Return those that bring something, by their records."""
         found: set[int] = set()
         left: dict[int, dict[bytes, list[AskedOrigin]]] = {}
-        for rev in sorted(asked):
+        for rev in asked:
             changes, targets = self._history.changes(rev), self._targets(rev)
             rest = [each.path for each in changes if each.has_text or each.path not in targets]
             if (rest or not targets) and not is_copy_alone(changes):

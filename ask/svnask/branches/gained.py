@@ -1,40 +1,48 @@
 """What one branch or tag has and another one lacks, as release notes list it."""
 from __future__ import annotations
 
-from collections.abc import Iterable, Sequence
+from collections.abc import Iterable, Iterator, Sequence
+from functools import lru_cache
 from typing import NamedTuple
 
-from svnask.branches.bringing import Bringing, NamedPart, queries_of_source
-from svnask.engine.queries import Answers, LocationSegments, Log, Mergeinfo, is_askable
+from svnask.branches.bringing import Bringing
+from svnask.engine.queries import Answers, LocationSegments, Log, Mergeinfo, Segment, is_askable
 from svnask.errors import Denied
-from svnask.history.open_history import OpenHistory
+from svnask.history.lives import Life
+from svnask.history.open_history import OpenHistory, one
 from svnask.history.targets import Target
 from svnask.log import selection as log
+from svnask.masks import count_in, mask_between, mask_of, mask_of_revisions, revisions_in
 from svnask.mergeinfo.values import runs_of
 from svnask.merges.recorded import Merged, Recorded
+from svnask.revisions import Range
 from svnask.texts import decoded
+
+# Of how many lives sets of revisions are kept, which are as long as the history.
+MOST_MASKS = 64
 
 
 class HeldRevisions(NamedTuple):
-    """The revisions that a path has: in its own history, by its mergeinfo as a whole or in part, or only recorded."""
+    """The sets of revisions that a path has: in its own history, by its mergeinfo as a whole or in part, or only
+    recorded."""
 
-    own: set[int]
-    merged: set[int]
-    partial: set[int]
-    recorded: set[int]
+    own: int
+    merged: int
+    partial: int
+    recorded: int
 
     def how(self, rev: int) -> str:
-        if rev in self.own:
+        if self.own >> rev & 1:
             return "history"
-        return "merged" if rev in self.merged else "merged in part" if rev in self.partial else "recorded"
+        return "merged" if self.merged >> rev & 1 else "merged in part" if self.partial >> rev & 1 else "recorded"
 
-    def beside(self, other: HeldRevisions) -> set[int]:
-        """The revisions that another one lacks."""
-        return (self.own | self.merged | (self.partial - other.partial)) - other.own - other.merged - {0}
+    def beside(self, other: HeldRevisions) -> int:
+        """Return the set of the revisions that another one lacks."""
+        return (self.own | self.merged | self.partial & ~other.partial) & ~(other.own | other.merged | 1)
 
-    def all_beside(self, other: HeldRevisions) -> set[int]:
-        """The same with those that were only recorded, which the other one lacks in any way."""
-        return self.beside(other) | (self.recorded - other.own - other.merged - other.partial - other.recorded)
+    def all_beside(self, other: HeldRevisions) -> int:
+        """Return the same with those that were only recorded, which the other one lacks in any way."""
+        return self.beside(other) | self.recorded & ~(other.own | other.merged | other.partial | other.recorded)
 
 
 class Gained(NamedTuple):
@@ -52,40 +60,114 @@ def mergeinfo_of(answers: Answers, target: Target) -> dict[bytes, str]:
     return answer.value
 
 
-def held_by(history: OpenHistory, targets: Sequence[Target], recorded: Recorded | None = None) -> list[HeldRevisions]:
-    """Return what each of some targets has."""
-    answers = history.answers(
-        query for each in targets for query in (LocationSegments(*each), Log(*each), Mergeinfo(*each))
-    )
-    for target in targets:
-        if not answers[LocationSegments(*target)].ok:
-            raise log.not_reached(history, target)
-    tree = history.tree
-    parts = {
-        target: [
-            part
-            for path, ranges in mergeinfo_of(answers, target).items()
-            if is_askable(path)
-            for part in queries_of_source(tree, history.head, path, runs_of(ranges.encode("ascii")))
+class LifeLogs:
+    """The operative revisions of lives. Each life is asked about once."""
+
+    def __init__(self, history: OpenHistory) -> None:
+        self._history = history
+        self._known: dict[Life, list[int]] = {}
+        self._mask = lru_cache(MOST_MASKS)(self._made)
+
+    def find(self, lives: Iterable[Life]) -> None:
+        """Ask about those of some lives that are not known, all at once."""
+        new = [life for life in dict.fromkeys(lives) if life not in self._known]
+        answers = self._history.ask([Log(life.path, life.last, (life.first, life.last)) for life in new])
+        self._known.update((life, answer.revisions) for life, answer in zip(new, answers))
+
+    def _made(self, life: Life) -> int:
+        return mask_of_revisions(self._known[life])
+
+    def of(self, part: LifePart) -> int:
+        """Return the set of the operative revisions of a part of a life that is known."""
+        return self._mask(part.life) & mask_between(*part.revisions)
+
+
+class LifePart(NamedTuple):
+    """Some revisions of a life."""
+
+    life: Life
+    revisions: Range
+
+
+def parts_of(history: OpenHistory, path: bytes, lo: int, hi: int) -> Iterator[LifePart]:
+    """Yield the parts that the lives of a path have of a range of revisions."""
+    for life in history.tree.lives(path, history.head):
+        if max(lo, life.first) <= min(hi, life.last):
+            yield LifePart(life, (max(lo, life.first), min(hi, life.last)))
+
+
+class NamedPart(NamedTuple):
+    """A part of a life of a source path, which a value names, perhaps for what is below, too."""
+
+    part: LifePart
+    inheritable: bool
+
+
+class Holdings:
+    """Finds what paths have."""
+
+    def __init__(self, history: OpenHistory) -> None:
+        self._history = history
+        self.recorded = Recorded(history)
+        self._logs = LifeLogs(history)
+
+    def of(self, targets: Sequence[Target]) -> list[HeldRevisions]:
+        """Return what each of some targets has."""
+        answers = self._history.answers(
+            query for each in targets for query in (LocationSegments(*each), Mergeinfo(*each))
+        )
+        for target in targets:
+            if not answers[LocationSegments(*target)].ok:
+                raise log.not_reached(self._history, target)
+        own = {target: self._parts_of_history(answers[LocationSegments(*target)].segments) for target in targets}
+        named = {target: self._named_parts(mergeinfo_of(answers, target)) for target in targets}
+        self._logs.find(part.life for parts in own.values() for part in parts or ())
+        self._logs.find(part.life for parts in named.values() for part, _ in parts)
+        return [
+            self._held(
+                self._own(target, answers[LocationSegments(*target)].segments, own[target]), named[target], alone
+            )
+            for target, alone in zip(targets, self.recorded.of(targets))
         ]
-        for target in targets
-    }
-    answers.update(history.answers(part.query for each in parts.values() for part in each))
-    alone = (recorded or Recorded(history)).of(targets)
-    return [held_of(history, answers, target, parts[target], of_target) for target, of_target in zip(targets, alone)]
 
+    def _parts_of_history(self, segments: Iterable[Segment]) -> list[LifePart] | None:
+        """Return the parts of lives that a path went through, unless svnhist can't be asked about one of these."""
+        found = [segment for segment in segments if segment.path is not None]
+        if not all(is_askable(segment.path or b"") for segment in found):
+            return None
+        return [part for each in found for part in parts_of(self._history, each.path or b"", each.lo, each.hi)]
 
-def held_of(
-    history: OpenHistory, answers: Answers, target: Target, parts: Iterable[NamedPart], recorded: Merged
-) -> HeldRevisions:
-    trace = log.Trace(answers[LocationSegments(*target)].segments, answers[Log(*target)].revisions)
-    found = HeldRevisions(set(log.listed(history, trace)), set(), set(), set())
-    for path, query, inheritable in parts:
-        revisions = answers[query].revisions
-        alone = recorded[path].among(revisions[::-1]) if path in recorded else []
-        found.recorded.update(alone)
-        (found.merged if inheritable else found.partial).update({*revisions}.difference(alone) if alone else revisions)
-    return found
+    def _named_parts(self, value: dict[bytes, str]) -> list[NamedPart]:
+        return [
+            NamedPart(part, run.inheritable)
+            for path, ranges in value.items()
+            if is_askable(path)
+            for run in runs_of(ranges.encode("ascii"))
+            for part in parts_of(self._history, path, run.lo, run.hi)
+        ]
+
+    def _own(self, target: Target, segments: list[Segment], parts: list[LifePart] | None) -> int:
+        """Return the set of the revisions of the history of a target."""
+        if parts is None:
+            trace = log.Trace(segments, one(self._history.ask([Log(*target)])).revisions)
+            return mask_of_revisions(log.listed(self._history, trace))
+        found = mask_of_revisions(log.listed(self._history, log.Trace(segments, [])))
+        for part in parts:
+            found |= self._logs.of(part)
+        return found
+
+    def _held(self, own: int, parts: Iterable[NamedPart], recorded: Merged) -> HeldRevisions:
+        merged = partial = of_records = 0
+        alone = {path: mask_of(revisions.ranges) for path, revisions in recorded.items() if revisions}
+        for part, inheritable in parts:
+            revisions = self._logs.of(part)
+            recorded_alone = revisions & alone.get(part.life.path, 0)
+            of_records |= recorded_alone
+            if inheritable:
+                merged |= revisions & ~recorded_alone
+            else:
+                partial |= revisions & ~recorded_alone
+        return HeldRevisions(own, merged, partial, of_records)
 
 
 def gained(history: OpenHistory, before: Target, after: Target, is_all: bool = False) -> list[Gained]:
@@ -93,11 +175,9 @@ def gained(history: OpenHistory, before: Target, after: Target, is_all: bool = F
 
     Those that only copied, renamed, merged or recorded something are left out, unless all are wanted.
     """
-    of_before, of_after = held_by(history, [before, after])
-    if is_all:
-        return [Gained(rev, of_after.how(rev)) for rev in sorted(of_after.all_beside(of_before), reverse=True)]
-    found = Bringing(history).among(of_after.beside(of_before))
-    return [Gained(rev, of_after.how(rev)) for rev in sorted(found, reverse=True)]
+    of_before, of_after = Holdings(history).of([before, after])
+    found = of_after.all_beside(of_before) if is_all else Bringing(history).among(of_after.beside(of_before))
+    return [Gained(rev, of_after.how(rev)) for rev in reversed(revisions_in(found))]
 
 
 class Distance(NamedTuple):
@@ -111,21 +191,20 @@ class Distances:
     """The distances of paths from targets, by the revisions that `gained` lists. The paths are there today."""
 
     def __init__(self, history: OpenHistory, paths: Iterable[bytes]) -> None:
-        self._history = history
-        self._recorded = Recorded(history)
+        self._holdings = Holdings(history)
         # What they were copied from is walked once for all.
-        self._recorded.of((path, history.head) for path in paths)
+        self._holdings.recorded.of((path, history.head) for path in paths)
         self._held: dict[Target, HeldRevisions] = {}
         self._bringing = Bringing(history)
 
     def of(self, path: Target, target: Target) -> Distance:
         of_target = self.held(target)
-        (held,) = held_by(self._history, [path], self._recorded)
+        (held,) = self._holdings.of([path])
         ahead, behind = held.beside(of_target), of_target.beside(held)
-        return Distance(len(self._bringing.among(ahead)), len(self._bringing.among(behind)))
+        return Distance(count_in(self._bringing.among(ahead)), count_in(self._bringing.among(behind)))
 
     def held(self, target: Target) -> HeldRevisions:
         """Return what a target has, which is kept."""
         if target not in self._held:
-            (self._held[target],) = held_by(self._history, [target], self._recorded)
+            (self._held[target],) = self._holdings.of([target])
         return self._held[target]

@@ -5,7 +5,7 @@ from collections.abc import Iterable, Iterator, Sequence
 from typing import NamedTuple
 
 from svnask.engine.queries import Answers, Log, is_askable
-from svnask.history.lives import Tree, unmatched
+from svnask.history.lives import unmatched
 from svnask.history.open_history import OpenHistory
 from svnask.mergeinfo.explicit import Explicit
 from svnask.mergeinfo.values import Run, Value, value_of
@@ -39,13 +39,12 @@ class Paths:
 
     def __init__(self, history: OpenHistory) -> None:
         self._history = history
-        self._tree = Tree(history.records())
         self._lives: dict[bytes, list[Range]] = {}
         self._operative: dict[bytes, list[int]] = {}
 
     def lives(self, path: bytes) -> list[Range]:
         if path not in self._lives:
-            found = self._tree.lives(path, self._history.head)
+            found = self._history.tree.lives(path, self._history.head)
             self._lives[path] = [(life.first, life.last) for life in found]
         return self._lives[path]
 
