@@ -1,6 +1,9 @@
 """`log --search`: how patterns match, how texts are folded, and which entries are printed."""
 from __future__ import annotations
 
+import random
+from unittest import mock
+
 from svnask.log import search
 from tests.ask import base
 
@@ -49,6 +52,42 @@ class Search(base.Case):
         # fmt: on
         for words, wanted in rows:
             self.assertEqual(self.revisions(*words), wanted, words)
+
+    def test_nothing_that_matches_is_sieved_out(self) -> None:
+        """A pattern is a part of what is printed, perhaps with stars, in other letters."""
+        chance = random.Random(1)
+        for name in ("branches", "merges", "names", "properties"):
+            dump = base.dump_of(name)
+            for form in ("-g", "--xml", "--quiet"):
+                printed = base.called(dump, "log", "-v", form).output
+                for _ in range(8):
+                    at = chance.randrange(len(printed))
+                    word = printed[at : at + chance.choice((2, 4, 9))].decode("utf-8", "replace").swapcase()
+                    others = chance.choice(("", f"{word[1:]}*{word[:1]}", "a[bc]d"))
+                    words = [f"--search={each}" for each in (word, others) if each]
+                    asked = ["log", form, *["-v"] * chance.randrange(2), *words]
+                    found = base.called(dump, *asked)
+                    with mock.patch("svnask.log.forms.sieve_of", return_value=lambda rev: True):
+                        self.assertEqual(found, base.called(dump, *asked), (name, asked))
+
+    def test_a_sieve_looks_for_what_a_pattern_needs(self) -> None:
+        rows: tuple[tuple[bytes, bytes | None], ...] = (
+            (b"proj-3", b"proj-3"),
+            (b"a*bcd?e", b"bcd"),
+            (b"/trunk/f", b"trunk"),
+            (b"xy[z", b"xy"),
+            (b"xy\\z", b"xy"),
+            (b"*", None),
+            (b"mon", None),
+            (b"monday", b"monday"),
+            (b"2024-01-01 00:", None),
+            (b"no author", None),
+        )
+        for pattern, wanted in rows:
+            self.assertEqual(search.Glob(pattern).literal, wanted, pattern)
+        sieve = search.Sieve([[search.Glob(b"proj-3")], [search.Glob(b"bug")]])
+        texts = ((b"see PROJ-31", True), (b"a Bug", True), (b"proj 3", False), (b"bu\xc3\xa9", True))
+        self.assertEqual([sieve.may_match(text) for text, _ in texts], [wanted for _, wanted in texts])
 
     def test_a_pattern_is_utf_8(self) -> None:
         done = base.called(base.dump_of("branches"), "log", "--search", "\udcff")

@@ -202,6 +202,10 @@ class Store:
         """The bytes of the copy from one offset to another one."""
         return b"".join(part[begin:end] for part, begin, end in self._pieces(first, last))
 
+    def text(self, first: int, last: int) -> bytes:
+        """The bytes of revisions."""
+        return self.between(self.index.revisions[first], self._end(last))
+
     def with_properties(self, rev: int, section: bytes) -> bytes:
         """The bytes of a revision with other properties."""
         head = b"Revision-number: %d\nAt: %s\n" % (rev, self._head(rev)["at"])

@@ -438,6 +438,14 @@ class OpenHistory:
         """
         return self._store.records(first, last)
 
+    def text(self, first: int, last: int) -> bytes:
+        """The bytes of revisions in the copy, with their properties and records.
+
+        >>> history.text(9, 9).startswith(b"Revision-number: 9\\n"), b"Branch and change" in history.text(9, 10)
+        (True, True)
+        """
+        return self._store.text(first, last)
+
     @property
     def tree(self) -> Tree:
         """Return what was at each path of each revision. It is made once.

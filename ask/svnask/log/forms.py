@@ -2,14 +2,15 @@
 from __future__ import annotations
 
 from abc import ABC, abstractmethod
-from collections.abc import Iterable, Iterator, Sequence
+from collections.abc import Callable, Iterable, Iterator, Sequence
+from functools import cache
 from typing import NamedTuple
 
 from svnask.copy.changes import Change
 from svnask.copy.store import Revision
 from svnask.history.open_history import OpenHistory
 from svnask.log.processes import count_of_processes, made
-from svnask.log.search import Group, is_found
+from svnask.log.search import Group, Sieve, is_found
 from svnask.log.selection import Item
 from svnask.paths import components
 
@@ -17,6 +18,8 @@ AUTHOR, DATE, MESSAGE = b"svn:author", b"svn:date", b"svn:log"
 SHOWN = frozenset((AUTHOR, DATE, MESSAGE))
 # How many items a log has that several processes print, and how many they print at once.
 LONG, LENGTH_OF_PART = 8000, 1000
+# How many revisions are searched at once for what all that match have.
+SIEVED = 64
 
 
 class Wanted(NamedTuple):
@@ -99,10 +102,13 @@ def log_entries(
 ) -> Iterator[LogEntry | None]:
     """The entries of a log, and None after those that were merged in one. Revision 0 has one where its message is
     wanted and there."""
+    may_match = sieve_of(history, wanted.groups)
     for item in items:
         if item.rev < 0:
             via = via[:-1]
             yield None
+            continue
+        if wanted.groups and not item.has_merges and not item.left_out and not may_match(item.rev):
             continue
         revision = as_wanted(history.revision(item.rev), wanted.names)
         if item.rev == 0 and (revision.message is None or not form.has_messages):
@@ -112,6 +118,17 @@ def log_entries(
             yield LogEntry(revision, changes, via, item.is_reverse, item.has_merges)
         if item.has_merges:
             via = (*via, item.rev)
+
+
+def sieve_of(history: OpenHistory, groups: Sequence[Group]) -> Callable[[int], bool]:
+    """Return what says whether a group may match a revision. It looks at many of them at once."""
+    sieve = Sieve(groups)
+
+    @cache
+    def part_may_match(part: int) -> bool:
+        return sieve.may_match(history.text(part * SIEVED, min(part * SIEVED + SIEVED - 1, history.head)))
+
+    return lambda rev: part_may_match(rev // SIEVED)
 
 
 class LogPart(NamedTuple):

@@ -14,6 +14,11 @@ from collections.abc import Iterable, Iterator
 ANY, ONE, SET, END_OF_SET, ESCAPE = b"*?[]\\"
 # A set that has no byte.
 NOTHING = rb"(?!)"
+# Where a text in which a pattern is found has no certain letters, and where the bytes of a revision have others.
+NOT_LITERAL = re.compile(rb"[*?/]|\[.*|\\.*", re.DOTALL)
+# What is searched and not in the bytes of a revision: a date with names, and what stands where something is missing.
+NAMES = "sun mon tue wed thu fri sat jan feb mar apr may jun jul aug sep oct nov dec author no date invalid".split()
+WORD = re.compile(r"[a-z]+")
 
 
 class Glob:
@@ -24,6 +29,7 @@ class Glob:
         # Each piece between stars is found at its first place after the piece before. Subversion puts a star at both
         # ends, of which a backslash may take the last one.
         *pieces, last = pieces_of(b"*%s*" % pattern)
+        self.literal = literal_of(pattern)
         self._pieces = [re.compile(each, re.DOTALL) for each in (*pieces, last + rb"\Z")]
 
     def matches(self, text: bytes) -> bool:
@@ -52,6 +58,13 @@ def pieces_of(pattern: bytes) -> Iterator[bytes]:
             element, at = element_at(pattern, at)
             piece += element
     yield piece
+
+
+def literal_of(pattern: bytes) -> bytes | None:
+    """Return what the bytes of a revision have in which a folded pattern is found, if that is known."""
+    found: bytes = max(NOT_LITERAL.split(pattern), key=len)
+    words = WORD.findall(found.decode("utf-8", "replace"))
+    return found if any(all(word not in name for name in NAMES) for word in words) else None
 
 
 def element_at(pattern: bytes, at: int) -> tuple[bytes, int]:
@@ -98,6 +111,20 @@ def set_of(text: bytes) -> bytes:
         letters.update(range(low, high + 1))
     chosen = [byte for byte in range(256) if (byte in letters) != is_negated]
     return b"[%s]" % b"".join(b"\\x%02x" % byte for byte in chosen) if chosen else NOTHING
+
+
+class Sieve:
+    """Tells of the bytes of revisions, without reading them one by one, that no group matches in them."""
+
+    def __init__(self, groups: Iterable[Group]) -> None:
+        # Of each group one literal is looked for.
+        found = [[glob.literal for glob in group if glob.literal is not None] for group in groups]
+        self._literals = [max(literals, key=len, default=b"") for literals in found]
+
+    def may_match(self, text: bytes) -> bool:
+        """Return whether a group may match in some bytes. Other letters than those of ASCII may fold to any."""
+        lower = text.lower()
+        return any(literal in lower for literal in self._literals) or not lower.isascii()
 
 
 def is_mark(letter: str) -> bool:

@@ -12,7 +12,7 @@ from svnask.cli.verbs.log import glob_of
 from svnask.errors import Usage
 from svnask.history.open_history import OpenHistory
 from svnask.history.targets import DATE, NUMBER, known, pattern_of, range_of, revision_of
-from svnask.log.forms import SHOWN, as_wanted
+from svnask.log.forms import SHOWN, as_wanted, sieve_of
 from svnask.log.plain import author_of, date_of
 from svnask.log.search import Glob, is_found
 from svnask.paths import split_peg
@@ -97,7 +97,8 @@ def is_revision(word: str) -> bool:
 def searched(history: OpenHistory, globs: Sequence[Glob]) -> Iterator[int]:
     """The revisions of which a text matches one of some patterns."""
     groups = [[glob] for glob in globs]
-    for rev in range(1, history.head + 1) if groups else ():
+    may_match = sieve_of(history, groups)
+    for rev in filter(may_match, range(1, history.head + 1)) if groups else ():
         revision = as_wanted(history.revision(rev), SHOWN)
         if is_found(groups, [author_of(revision), date_of(revision), revision.message or b""]):
             yield rev
