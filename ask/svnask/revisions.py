@@ -3,6 +3,7 @@ from __future__ import annotations
 
 import bisect
 from collections.abc import Iterable, Iterator, Sequence
+from typing import overload
 
 # The first and the last one of neighbouring revisions.
 Range = tuple[int, int]
@@ -86,9 +87,18 @@ class Revisions:
         at = bisect.bisect_left(self.ranges, (rev + 1,)) - 1
         return self.ranges[at] if at >= 0 and rev <= self.ranges[at][1] else None
 
-    def among(self, rising: Sequence[int]) -> list[int]:
-        """Return the rising revisions that are in the set."""
-        return [rev for lo, hi in self.ranges for rev in in_range(rising, lo, hi)]
+    def among(self, rising: Sequence[int]) -> Sequence[int]:
+        """Return the rising revisions that are in the set. Where they are neighbours, they are not copied."""
+        found: list[range] = []
+        for lo, hi in self.ranges:
+            places = range(bisect.bisect_left(rising, lo), bisect.bisect_right(rising, hi))
+            if found and found[-1].stop == places.start:
+                found[-1] = range(found[-1].start, places.stop)
+            elif places:
+                found.append(places)
+        if len(found) == 1:
+            return Neighbours(rising, found[0])
+        return [rev for places in found for rev in rising[places.start : places.stop]]
 
     def add(self, low: int, high: int) -> None:
         """Add a range to this set itself."""
@@ -99,6 +109,44 @@ class Revisions:
             last += 1
         parts = [*self.ranges[first:last], (low, high)]
         self.ranges[first:last] = [(min(lo for lo, _ in parts), max(hi for _, hi in parts))]
+
+
+class Neighbours(Sequence[int]):
+    """Neighbours among rising revisions, which are not copied.
+
+    >>> found = Neighbours([1, 4, 6, 9], range(1, 3))
+    >>> [*found], found[-1]
+    ([4, 6], 6)
+    """
+
+    __slots__ = ("_rising", "_places")
+
+    def __init__(self, rising: Sequence[int], places: range) -> None:
+        self._rising, self._places = rising, places
+
+    def __len__(self) -> int:
+        return len(self._places)
+
+    @overload
+    def __getitem__(self, at: int) -> int:
+        ...
+
+    @overload
+    def __getitem__(self, at: slice) -> Sequence[int]:
+        ...
+
+    def __getitem__(self, at: int | slice) -> int | Sequence[int]:
+        places = self._places[at]
+        return self._rising[places] if isinstance(places, int) else [self._rising[place] for place in places]
+
+    def __iter__(self) -> Iterator[int]:
+        return iter(self._rising[self._places.start : self._places.stop])
+
+    def __eq__(self, other: object) -> bool:
+        return isinstance(other, Sequence) and [*self] == [*other]
+
+    def __repr__(self) -> str:
+        return repr([*self])
 
 
 def rangelist_of(ranges: Iterable[Range]) -> str:

@@ -43,7 +43,7 @@ def gains(history: History, patterns: Sequence[bytes] = ()) -> list[Gain]:
 
 def shown(found: list[Gain]) -> list[Found]:
     return [
-        Found(gain.source.path, gain.revisions, gain.target.path, gain.rev, gain.lost, gain.is_carried)
+        Found(gain.source.path, [*gain.revisions], gain.target.path, gain.rev, gain.lost, gain.is_carried)
         for gain in found
     ]
 

@@ -5,7 +5,7 @@ was only recorded as merged. What the source of a copy had is not gained by the 
 """
 from __future__ import annotations
 
-from collections.abc import Iterable, Iterator
+from collections.abc import Iterable, Iterator, Sequence
 from typing import NamedTuple
 
 from svnask.engine.queries import Answer, Inherited, LocationSegments, Mergeinfo, Query, Segments, is_askable
@@ -27,7 +27,7 @@ class Gain(NamedTuple):
     source: Life
     target: Life
     rev: int
-    revisions: list[int]
+    revisions: Sequence[int]
     lost: int | None
     is_carried: bool
 
@@ -36,7 +36,7 @@ class Tallied(NamedTuple):
     """Rising revisions of a source, and when the target gained and lost them."""
 
     source: Life
-    revisions: list[int]
+    revisions: Sequence[int]
     gained: int
     lost: int | None
 
@@ -60,7 +60,7 @@ class Sources:
     def at(self, path: bytes) -> list[Life]:
         return self._by_path.get(path, [])
 
-    def revisions(self, life: Life, revisions: Revisions) -> list[int]:
+    def revisions(self, life: Life, revisions: Revisions) -> Sequence[int]:
         """Return the operative revisions of a life that are in a set, rising."""
         return revisions.among(self._operative[life])
 
@@ -154,11 +154,11 @@ def gains_of(operative: dict[Life, list[int]], asked: Iterable[LifeQuery], answe
 
 def joined_gains(held: dict[Life, list[Tallied]]) -> list[Gain]:
     """The revisions that one revision of a target gained of one source, as one gain."""
-    found: dict[tuple[Life, int, Life, int | None, bool], list[int]] = {}
+    found: dict[tuple[Life, int, Life, int | None, bool], Sequence[int]] = {}
     for target, each, is_carried in told_apart(held):
         key = target, each.gained, each.source, each.lost, is_carried
         # Most are of one part, whose revisions are not copied.
-        found[key] = sorted(found[key] + each.revisions) if key in found else each.revisions
+        found[key] = sorted([*found[key], *each.revisions]) if key in found else each.revisions
     gains = [
         Gain(source, target, rev, revs, lost, is_carried)
         for (target, rev, source, lost, is_carried), revs in found.items()
@@ -184,7 +184,7 @@ def told_apart(held: dict[Life, list[Tallied]]) -> Iterator[tuple[Life, Tallied,
                 yield from halves(target, each, carried.get(each.source, set()))
 
 
-def turns_in(turns: list[int], revisions: list[int]) -> set[int]:
+def turns_in(turns: Sequence[int], revisions: Sequence[int]) -> set[int]:
     """Return the rising revisions that are among others."""
     return {*in_range(turns, revisions[0], revisions[-1])}.intersection(revisions)
 

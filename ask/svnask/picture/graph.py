@@ -56,7 +56,7 @@ class LaneMerge(NamedTuple):
     source: int
     target: int
     rev: int
-    revisions: list[int]
+    revisions: Sequence[int]
     lost: int | None
     is_carried: bool
     is_record_only: bool = False
@@ -388,8 +388,8 @@ class Merging:
                 state = gain.lost, gain.is_carried, self._is_record_only(gain)
                 key = source, target, gain.rev, *state, of, into
                 # Most merges have one gain, whose revisions are not copied.
-                before = found[key].revisions if key in found else []
-                revisions = sorted(before + gain.revisions) if before else gain.revisions
+                before = found[key].revisions if key in found else ()
+                revisions = sorted([*before, *gain.revisions]) if before else gain.revisions
                 found[key] = LaneMerge(source, target, gain.rev, revisions, *state, of, into)
         yield from found.values()
 

@@ -1,6 +1,8 @@
 """What a picture tells of each of its marks, under the pointer."""
 from __future__ import annotations
 
+from collections.abc import Sequence
+
 from svnask.history import dates
 from svnask.history.lives import Life
 from svnask.history.open_history import OpenHistory
@@ -11,7 +13,7 @@ from svnask.texts import readable
 MOST_LISTED = 24
 
 
-def newest_named(revisions: list[int]) -> str:
+def newest_named(revisions: Sequence[int]) -> str:
     """Rising revisions, of many only the newest ones."""
     shown = ", ".join(f"r{rev}" for rev in revisions[-MOST_LISTED:])
     more = len(revisions) - MOST_LISTED

@@ -2,6 +2,7 @@
 from __future__ import annotations
 
 import bisect
+from collections.abc import Sequence
 from typing import NamedTuple
 
 from svnask.history.lives import Life
@@ -22,7 +23,7 @@ class Arrow(NamedTuple):
     rev: int
     source: str
     target: str
-    revisions: list[int]
+    revisions: Sequence[int]
     how: str
 
 

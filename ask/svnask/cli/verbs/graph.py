@@ -75,7 +75,7 @@ class GraphVerb(Verb):
                 "source_lane": merge.source,
                 "lane": merge.target,
                 "revision": merge.rev,
-                "merged": merge.revisions,
+                "merged": [*merge.revisions],
                 "lost": merge.lost,
                 "is_carried": merge.is_carried,
                 "is_record_only": merge.is_record_only,
