@@ -123,8 +123,7 @@ class Inherited(Answer):
 
     @property
     def value(self) -> dict[bytes, str]:
-        pairs = [line.rpartition(b":") for line in self.lines]
-        return {path: ranges.decode("ascii") for path, _, ranges in pairs}
+        return rangelists_in(self.text)
 
 
 class Merges(Answer):
@@ -135,6 +134,12 @@ class Merges(Answer):
     @property
     def revisions(self) -> list[Merge]:
         return [Merge(int(line[1:].rstrip(b"*")), not line.endswith(b"*")) for line in self.lines]
+
+
+def rangelists_in(text: bytes) -> dict[bytes, str]:
+    """Return the rangelist of each source path of mergeinfo that svnhist prints."""
+    pairs = [line.rpartition(b":") for line in text.split(b"\n")] if text else []
+    return {path: ranges.decode("ascii") for path, _, ranges in pairs}
 
 
 def revisions_in(text: bytes) -> list[int]:

@@ -8,15 +8,23 @@ from __future__ import annotations
 from collections.abc import Iterable, Iterator, Sequence
 from typing import NamedTuple
 
-from svnask.engine.queries import Answer, Inherited, LocationSegments, Mergeinfo, Query, Segments, is_askable
+from svnask.engine.queries import (
+    Answer,
+    Inherited,
+    LocationSegments,
+    Mergeinfo,
+    Query,
+    Segments,
+    is_askable,
+    rangelists_in,
+)
 from svnask.history.lives import Life
 from svnask.mergeinfo.explicit import Explicit
+from svnask.merges.value_changes import middles
 from svnask.paths import tops_of
 from svnask.revisions import Revisions, in_range
 
 NONE = Revisions()
-# For each source path a rangelist of mergeinfo, as svnhist prints it.
-Rangelists = dict[bytes, str]
 
 
 class Gain(NamedTuple):
@@ -71,25 +79,26 @@ class Tally:
     def __init__(self, sources: Sources, own: dict[bytes, Revisions]) -> None:
         self._sources = sources
         self._own = own
-        self._value: Rangelists = {}
+        self._text = b""
         self._held: dict[Life, list[Tallied]] = {}
         self._lost: list[Tallied] = []
 
-    def begin(self, value: Rangelists) -> None:
+    def begin(self, text: bytes) -> None:
         """Take what the source of the copy had."""
-        self._value = value
+        self._text = text
 
-    def turn(self, rev: int, value: Rangelists) -> None:
-        """Take the mergeinfo from a revision on."""
-        for path in dict.fromkeys(path for path, _ in self._value.items() ^ value.items()):
-            before, after = (Revisions.parse(each.get(path, "")) for each in (self._value, value))
+    def turn(self, rev: int, text: bytes) -> None:
+        """Take the mergeinfo from a revision on, which mostly has one line that is new."""
+        sides = [rangelists_in(each) for each in middles(self._text, text)]
+        for path in dict.fromkeys(path for path, _ in sides[0].items() ^ sides[1].items()):
+            before, after = (Revisions.parse(each.get(path, "")) for each in sides)
             lost, gained = before - after, after - before - self._own.get(path, NONE)
             for source in self._sources.at(path):
                 self._lose(source, lost, rev)
                 revisions = self._sources.revisions(source, gained)
                 if revisions:
                     self._held.setdefault(source, []).append(Tallied(source, revisions, rev, None))
-        self._value = value
+        self._text = text
 
     def _lose(self, source: Life, revisions: Revisions, rev: int) -> None:
         if revisions and source in self._held:
@@ -146,9 +155,9 @@ def gains_of(operative: dict[Life, list[int]], asked: Iterable[LifeQuery], answe
             tallies[life] = Tally(sources, own_history(answer))
         elif isinstance(answer, Inherited) and answer.ok:
             if life.source == (answer.query.path, answer.query.rev):
-                tallies[life].begin(answer.value)
+                tallies[life].begin(answer.text)
             else:
-                tallies[life].turn(answer.query.rev, answer.value)
+                tallies[life].turn(answer.query.rev, answer.text)
     return joined_gains({life: tally.all() for life, tally in tallies.items()})
 
 
@@ -173,13 +182,16 @@ def told_apart(held: dict[Life, list[Tallied]]) -> Iterator[tuple[Life, Tallied,
         for each in all_of:
             gained.setdefault(target, {}).setdefault(each.gained, []).append(each)
     turns = {life: sorted(of_life) for life, of_life in gained.items()}
+    brought = {life: {each.source for each in all_of} for life, all_of in held.items()}
     for target, of_target in gained.items():
         for together in of_target.values():
+            sources = {each.source for each in together}
             carried: dict[Life, set[int]] = {}
             for each in together:
-                for rev in turns_in(turns.get(each.source, []), each.revisions):
-                    for brought in gained[each.source][rev]:
-                        carried.setdefault(brought.source, set()).update(brought.revisions)
+                if not sources.isdisjoint(brought.get(each.source, ())):
+                    for rev in turns_in(turns[each.source], each.revisions):
+                        for more in gained[each.source][rev]:
+                            carried.setdefault(more.source, set()).update(more.revisions)
             for each in together:
                 yield from halves(target, each, carried.get(each.source, set()))
 
