@@ -7,7 +7,7 @@ from typing import NamedTuple
 from svnask.copy.changes import Change
 from svnask.engine.queries import Log, is_askable
 from svnask.history.open_history import OpenHistory
-from svnask.masks import mask_of_revisions, revisions_in
+from svnask.masks import mask_between, mask_of_revisions, revisions_in
 from svnask.merges.value_changes import MalformedValue, Values
 from svnask.paths import is_at_or_below, joined, rest_below
 
@@ -38,12 +38,14 @@ class Bringing:
     def __init__(self, history: OpenHistory) -> None:
         self._history = history
         self._values = Values()
-        # The sets of the revisions that were looked at, and of those of them that bring something.
-        self._known, self._found = 1, 0
+        # The sets of the revisions that were looked at, and of those of them that bring something. One that made and
+        # unmade no path and changed no mergeinfo does.
+        others = mask_of_revisions(history.tree.revisions.union(history.explicit.settings))
+        self._known = self._found = mask_between(1, max(history.head, 0)) & ~others
 
     def among(self, asked: int) -> int:
         """Return the set of those that bring something."""
-        new = asked & ~self._known
+        new = asked & ~self._known & ~1
         if new:
             self._known |= new
             self._found |= mask_of_revisions(self._bringing(revisions_in(new)))

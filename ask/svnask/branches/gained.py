@@ -2,7 +2,7 @@
 from __future__ import annotations
 
 from collections.abc import Iterable, Iterator, Sequence
-from functools import lru_cache
+from functools import cache, lru_cache
 from typing import NamedTuple
 
 from svnask.branches.bringing import Bringing
@@ -158,10 +158,10 @@ class Holdings:
 
     def _held(self, own: int, parts: Iterable[NamedPart], recorded: Merged) -> HeldRevisions:
         merged = partial = of_records = 0
-        alone = {path: mask_of(revisions.ranges) for path, revisions in recorded.items() if revisions}
+        alone = cache(lambda path: mask_of(recorded[path].ranges) if path in recorded else 0)
         for part, inheritable in parts:
             revisions = self._logs.of(part)
-            recorded_alone = revisions & alone.get(part.life.path, 0)
+            recorded_alone = revisions & alone(part.life.path)
             of_records |= recorded_alone
             if inheritable:
                 merged |= revisions & ~recorded_alone

@@ -23,6 +23,7 @@ from svnask.mergeinfo.values import line_of, lines_of
 from svnask.merges import gains as merges
 from svnask.merges.gains import Gain, LifeQuery
 from svnask.merges.recorded import is_mergeinfo_alone
+from svnask.merges.value_changes import middles
 from svnask.paths import tops_of
 from svnask.projects import TAG, TRUNK, kind_of
 
@@ -271,9 +272,10 @@ class Parts:
 
     def _named(self, path: bytes, rev: int) -> set[bytes]:
         """The source paths of the lines that a revision gave to the mergeinfo of a path."""
-        before, after = (lines_of(self._explicit.text(path, each) or b"") for each in (rev - 1, rev))
+        before, after = (self._explicit.text(path, each) or b"" for each in (rev - 1, rev))
+        left, more = map(lines_of, middles(before, after))
         found = set()
-        for line in set(after).difference(before):
+        for line in set(more).difference(left):
             with contextlib.suppress(ValueError):
                 found.add(line_of(line)[0])
         return found
