@@ -7,19 +7,18 @@
 from __future__ import annotations
 
 import re
-from collections.abc import Iterable, Sequence
+from collections.abc import Collection, Iterable
+from functools import reduce
+from operator import or_
 
 from svnask.revisions import Range
 
 ONE = re.compile("1")
 
 
-def mask_of(ranges: Sequence[Range]) -> int:
+def mask_of(ranges: Iterable[Range]) -> int:
     """Return the set of the revisions of ranges."""
-    digits = bytearray(b"0" * (max((hi for _, hi in ranges), default=0) + 1))
-    for lo, hi in ranges:
-        digits[lo : hi + 1] = b"1" * (hi + 1 - lo)
-    return int(digits[::-1], 2)
+    return reduce(or_, (mask_between(*each) for each in ranges), 0)
 
 
 def mask_between(lo: int, hi: int) -> int:
@@ -27,9 +26,12 @@ def mask_between(lo: int, hi: int) -> int:
     return (1 << hi + 1) - (1 << lo)
 
 
-def mask_of_revisions(revisions: Iterable[int]) -> int:
+def mask_of_revisions(revisions: Collection[int]) -> int:
     """Return the set of some revisions."""
-    return mask_of([(rev, rev) for rev in revisions])
+    found = bytearray((max(revisions, default=0) >> 3) + 1)
+    for rev in revisions:
+        found[rev >> 3] |= 1 << (rev & 7)
+    return int.from_bytes(found, "little")
 
 
 def revisions_in(mask: int) -> list[int]:

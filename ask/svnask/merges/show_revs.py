@@ -140,7 +140,7 @@ def common_revisions(lines: Mapping[bytes, Revisions], source: Listed) -> set[in
 def shared(own: Located, source: Listed) -> Listed:
     """The revisions in which the target was at the place of the source."""
     return {
-        path: {rev for rev in source[path] if any(rev in each for each in ranges)}
+        path: {rev for each in ranges for rev in source[path] if each.start <= rev < each.stop}
         for path, ranges in own.items()
         if path in source
     }
