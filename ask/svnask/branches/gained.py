@@ -89,9 +89,9 @@ class LifePart(NamedTuple):
     revisions: Range
 
 
-def parts_of(history: OpenHistory, path: bytes, lo: int, hi: int) -> Iterator[LifePart]:
+def parts_of(lives: Iterable[Life], lo: int, hi: int) -> Iterator[LifePart]:
     """Yield the parts that the lives of a path have of a range of revisions."""
-    for life in history.tree.lives(path, history.head):
+    for life in lives:
         if max(lo, life.first) <= min(hi, life.last):
             yield LifePart(life, (max(lo, life.first), min(hi, life.last)))
 
@@ -110,6 +110,7 @@ class Holdings:
         self._history = history
         self.recorded = Recorded(history)
         self._logs = LifeLogs(history)
+        self._lives = cache(lambda path: [*history.tree.lives(path, history.head)])
 
     def of(self, targets: Sequence[Target]) -> list[HeldRevisions]:
         """Return what each of some targets has."""
@@ -135,7 +136,7 @@ class Holdings:
         found = [segment for segment in segments if segment.path is not None]
         if not all(is_askable(segment.path or b"") for segment in found):
             return None
-        return [part for each in found for part in parts_of(self._history, each.path or b"", each.lo, each.hi)]
+        return [part for each in found for part in parts_of(self._lives(each.path or b""), each.lo, each.hi)]
 
     def _named_parts(self, value: dict[bytes, str]) -> list[NamedPart]:
         return [
@@ -143,7 +144,7 @@ class Holdings:
             for path, ranges in value.items()
             if is_askable(path)
             for run in runs_of(ranges.encode("ascii"))
-            for part in parts_of(self._history, path, run.lo, run.hi)
+            for part in parts_of(self._lives(path), run.lo, run.hi)
         ]
 
     def _own(self, target: Target, segments: list[Segment], parts: list[LifePart] | None) -> int:
