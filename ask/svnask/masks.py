@@ -1,7 +1,7 @@
 """Sets of revisions as numbers, with a bit for each revision: long ones are compared quickly.
 
 >>> mask = mask_of([(1, 3), (7, 7)])
->>> revisions_in(mask & ~mask_of([(2, 2)])), count_in(mask)
+>>> members_of(mask & ~mask_of([(2, 2)])), count_in(mask)
 ([1, 3, 7], 4)
 """
 from __future__ import annotations
@@ -34,7 +34,7 @@ def mask_of_revisions(revisions: Collection[int]) -> int:
     return int.from_bytes(found, "little")
 
 
-def revisions_in(mask: int) -> list[int]:
+def members_of(mask: int) -> list[int]:
     """Return the revisions of a set, rising."""
     return [found.start() for found in ONE.finditer(f"{mask:b}"[::-1])]
 

@@ -7,7 +7,7 @@ from typing import NamedTuple
 from svnask.copy.changes import Change
 from svnask.engine.queries import Log, is_askable
 from svnask.history.open_history import OpenHistory
-from svnask.masks import mask_between, mask_of_revisions, revisions_in
+from svnask.masks import mask_between, mask_of_revisions, members_of
 from svnask.merges.value_changes import MalformedValue, Values
 from svnask.paths import is_at_or_below, joined, rest_below
 
@@ -48,7 +48,7 @@ class Bringing:
         new = asked & ~self._known & ~1
         if new:
             self._known |= new
-            self._found |= mask_of_revisions(self._bringing(revisions_in(new)))
+            self._found |= mask_of_revisions(self._bringing(members_of(new)))
         return asked & self._found
 
     def _bringing(self, asked: Iterable[int]) -> set[int]:

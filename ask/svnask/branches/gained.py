@@ -12,7 +12,7 @@ from svnask.history.lives import Life
 from svnask.history.open_history import OpenHistory, one
 from svnask.history.targets import Target
 from svnask.log import selection as log
-from svnask.masks import count_in, mask_between, mask_of, mask_of_revisions, revisions_in
+from svnask.masks import count_in, mask_between, mask_of, mask_of_revisions, members_of
 from svnask.mergeinfo.values import runs_of
 from svnask.merges.recorded import Merged, Recorded
 from svnask.revisions import Range
@@ -178,7 +178,7 @@ def gained(history: OpenHistory, before: Target, after: Target, is_all: bool = F
     """
     of_before, of_after = Holdings(history).of([before, after])
     found = of_after.all_beside(of_before) if is_all else Bringing(history).among(of_after.beside(of_before))
-    return [Gained(rev, of_after.how(rev)) for rev in reversed(revisions_in(found))]
+    return [Gained(rev, of_after.how(rev)) for rev in reversed(members_of(found))]
 
 
 class Distance(NamedTuple):
