@@ -17,6 +17,21 @@ from tests.ask import base
 from tests.ask.questions import ALL, OF_DUMP, OTHERS, all_but
 
 DUMP = base.dump_of("branches")
+# A command that gets a signal while an object is destroyed.
+IN_DESTRUCTOR = """
+import os, signal, time
+from svnask.cli import main
+class Last:
+    def __del__(self):
+        os.kill(os.getpid(), signal.SIGTERM)
+        time.sleep(0)
+def call(words):
+    Last()
+    time.sleep(60)
+    return 0
+main.call = call
+main.answer([])
+"""
 
 
 def faulty() -> bytes:
@@ -270,6 +285,11 @@ class Command(base.Case):
         process.send_signal(signal.SIGHUP)
         output, _ = process.communicate(DUMP.read_bytes()[len(first_lines()) :])
         self.assertEqual((process.returncode, output.split(b"\n")[2]), (0, b"youngest: 13"))
+
+    def test_a_signal_in_a_destructor_is_not_lost(self) -> None:
+        with base.signals_end():
+            done = running.run([sys.executable, "-c", IN_DESTRUCTOR], environment={"PYTHONPATH": str(ROOT / "ask")})
+        self.assertEqual((done.status, done.errors), (-signal.SIGTERM, b""))
 
     def check_signal(self, number: int) -> None:
         process = self.reading()

@@ -14,8 +14,23 @@ from svnask.errors import Failed
 from svnask.texts import drop, say
 
 
+# The seconds after which a signal that was lost comes again.
+SOON = 0.01
+
+
 def raise_stopped(number: int, frame: object) -> NoReturn:
     raise Stopped(number)
+
+
+def send_again(lost: sys.UnraisableHookArgs) -> None:
+    """Have a signal come again that came in a destructor or the like, where an exception is lost."""
+    if isinstance(lost.exc_value, Stopped):
+        number = lost.exc_value.args[0]
+        # Not at once, which is still there.
+        signal.signal(signal.SIGALRM, lambda _, frame: raise_stopped(number, frame))
+        signal.setitimer(signal.ITIMER_REAL, SOON)
+    else:
+        sys.__unraisablehook__(lost)
 
 
 def end_by(number: int) -> NoReturn:
@@ -30,6 +45,7 @@ def answer(arguments: list[str] | None = None) -> int:
         # What the caller has the command ignore, as nohup does, stays ignored.
         if signal.getsignal(number) != signal.SIG_IGN:
             signal.signal(number, raise_stopped)
+    sys.unraisablehook = send_again
     try:
         return call(sys.argv[1:] if arguments is None else arguments)
     except Stopped as stopped:
