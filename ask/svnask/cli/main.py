@@ -13,7 +13,6 @@ from svnask.asking.verbs import verb_named
 from svnask.errors import Failed
 from svnask.texts import drop, say
 
-
 # The seconds after which a signal that was lost comes again.
 SOON = 0.01
 
@@ -23,7 +22,7 @@ def raise_stopped(number: int, frame: object) -> NoReturn:
 
 
 def send_again(lost: sys.UnraisableHookArgs) -> None:
-    """Have a signal come again that came in a destructor or the like, where an exception is lost."""
+    """Send a signal again that came in a destructor or the like, where an exception is lost."""
     if isinstance(lost.exc_value, Stopped):
         number = lost.exc_value.args[0]
         # Not at once, which is still there.
