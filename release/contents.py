@@ -82,14 +82,14 @@ def names_of_pages() -> list[str]:
     return ["README.md", "SECURITY.md", *(f"docs/{name}" for name in below if name not in FOR_DEVELOPERS)]
 
 
-def sections(page: str) -> dict[str, str]:
-    """The sections of a page by their headings. Each ends before the next heading."""
-    return {each.partition("\n")[0].lstrip("# "): each for each in HEADING.split(page)}
+def sections(page: str) -> list[tuple[str, str]]:
+    """Return the sections of a page, each with its heading. Each ends before the next heading."""
+    return [(each.partition("\n")[0].lstrip("# "), each) for each in HEADING.split(page)]
 
 
 def readme() -> str:
     """The README of a release: its own text, with sections of that of the source tree."""
-    taken = sections(read("README.md").decode("utf-8"))
+    taken = dict(sections(read("README.md").decode("utf-8")))
     return TAKEN.sub(lambda found: taken[found[1]].strip(), read("release/readme.md").decode("utf-8"))
 
 
@@ -97,10 +97,11 @@ def page_of(name: str) -> str:
     """A page as a release has it."""
     if name == "README.md":
         return readme()
-    kept = sections(read(name).decode("utf-8"))
-    for heading in OF_SOURCES.get(name, []):
-        del kept[heading]
-    return "".join(kept.values())
+    found, left_out = sections(read(name).decode("utf-8")), OF_SOURCES.get(name, [])
+    missing = set(left_out).difference(heading for heading, _ in found)
+    if missing:
+        raise ValueError(f"{name} has no section {', '.join(sorted(missing))}")
+    return "".join(text for heading, text in found if heading not in left_out)
 
 
 def examples(names: Iterable[str]) -> list[File]:
