@@ -34,7 +34,7 @@ PAGES = (
     WHERE,
 )
 SLOW = ("/api/log?path=trunk&use-merge-history=1&verbose=1", "/api/graph", "/api/unmerged", "/api/branches?log=1") * 4
-FIRST, LATER, FIRST_OF_OTHERS, MOST_BESIDE, MILLISECONDS, MOST_MEGABYTES = 2.0, 0.2, 1.5, 1.0, 3.3, 300
+FIRST, LATER, FIRST_OF_OTHERS, MOST_BESIDE, MILLISECONDS, MOST_MEGABYTES = 2.0, 0.2, 0.2, 1.0, 3.3, 300
 CLIENTS, QUESTIONS = 4, 300
 INCOMPLETE = b'http-equiv="refresh"'
 

@@ -43,6 +43,8 @@ LACKING = [name for name in web.NEEDED if importlib.util.find_spec(name) is None
 OF_OTHERS = ("script", "b", "img", "iframe", "object", "embed", "style", "base", "meta")
 MARKUP = "</pre><script>alert(1)</script><b onclick='x'>\"'&lt;\x1b[2J\u202e"
 PAGES = ("", "revision", "path", "compare", "checks", "search")
+# What a page has that is not there yet.
+AT_ONCE = b'http-equiv="refresh" content="0"'
 
 
 class Got(NamedTuple):
@@ -113,7 +115,12 @@ class Web(base.Case):
         return made
 
     def got(self, opened: wsgi.Application, address: str, method: str = "GET", **environ: str) -> Got:
-        """Return what an application answers."""
+        """Return what an application answers, as soon as a page is there."""
+        while AT_ONCE in (found := self.got_first(opened, address, method, **environ)).content:
+            pass
+        return found
+
+    def got_first(self, opened: wsgi.Application, address: str, method: str = "GET", **environ: str) -> Got:
         path, _, query = address.partition("?")
         begun: list[Any] = []
         whole: dict[str, Any] = {
@@ -227,6 +234,18 @@ class Web(base.Case):
             objects = self.got(opened, link).text.splitlines()
             self.assertEqual([f"r{json.loads(line)['revision']}" for line in objects], listed, query)
             self.assertTrue(listed, query)
+
+    def test_a_page_that_takes_long_says_so(self) -> None:
+        opened, find, is_over = self.opened(base.dump_of("branches")), asked.Asked.objects, threading.Event()
+
+        def late(about: asked.Asked, *words: str) -> Iterator[dict[str, Any]]:
+            is_over.wait()
+            return find(about, *words)
+
+        with mock.patch.object(asked.Asked, "objects", late):
+            self.assertIn(AT_ONCE, self.got_first(opened, "/path/trunk").content)
+            is_over.set()
+            self.assertIn("/trunk", self.got(opened, "/path/trunk").text)
 
     def test_a_failure_is_told_once(self) -> None:
         opened = self.opened(base.dump_of("branches"))

@@ -74,6 +74,7 @@ class Pages(base.Case):
 
     def open(self, address: str) -> None:
         self.browser.get(self.front + address)
+        base.wait_for(lambda: not self.browser.title.startswith("Please wait"))
 
     def texts(self, selector: str) -> list[str]:
         """The texts of what can be seen of some elements."""

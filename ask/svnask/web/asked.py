@@ -72,7 +72,7 @@ class Asked:
         self.is_waiting = False
         history.notice = self.notes.append
         self._given, self._answers = given, answers
-        self._end = time.monotonic() + PATIENCE
+        self._begun = time.monotonic()
 
     def given(self, verb: str, words: Sequence[str], is_json: bool = True, is_csv: bool = False) -> Namespace:
         """Return what some words after a verb say."""
@@ -102,13 +102,16 @@ class Asked:
         return self._answers.has(name, self.history.index)
 
     def kept(
-        self, name: str, make: Callable[[Asked], T], is_needed: bool = False, among: KeptAnswers | None = None
+        self,
+        name: str,
+        make: Callable[[Asked], T],
+        patience: float | None = PATIENCE,
+        among: KeptAnswers | None = None,
     ) -> T | None:
         """Return an answer that takes long to find, and is found once. It is about an older state of the history, or
-        there is none, where it is not found in time, unless a page is nothing without it."""
-        patience = None if is_needed else max(self._end - time.monotonic(), 0)
-        begin = partial(self._begun, make)
-        found = (among or self._answers).of(name, self.history.index, begin, patience)
+        there is none, where it is not found so many seconds after the request came."""
+        left = None if patience is None else max(self._begun + patience - time.monotonic(), 0)
+        found = (among or self._answers).of(name, self.history.index, partial(self._maker, make), left)
         self.is_waiting |= found is None or found.of is not self.history.index
         if found is None:
             return None
@@ -117,7 +120,7 @@ class Asked:
         self.notes += found.notes
         return cast(T, found.value)
 
-    def _begun(self, make: Callable[[Asked], object]) -> Callable[[], KeptAnswer]:
+    def _maker(self, make: Callable[[Asked], object]) -> Callable[[], KeptAnswer]:
         """Return what another thread does to make an answer about the history as it is now."""
         view = self.history.view()
 

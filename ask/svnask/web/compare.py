@@ -16,7 +16,7 @@ MOST = 200
 def compare(asked: Asked, request: Request) -> Page:
     """Return what the second one has and the first one lacks, and what can still be merged."""
     before, after = (request.value(name).strip() for name in NEEDED)
-    names = asked.kept("names", names_of_today, is_needed=True)
+    names = asked.kept("names", names_of_today, patience=None)
     values: dict[str, object] = {"before": before, "after": after, "names": names, "is_asked": bool(before and after)}
     if not (before and after):
         return Page("compare.html", "Compare", [], [], values)

@@ -44,6 +44,9 @@ class KeptAnswers:
         found = self._kept.get(name)
         return found is not None and found.of is index
 
+    def is_being_made(self, name: str) -> bool:
+        return name in self._made
+
     def of(self, name: str, index: Index, begin: Callable[[], Make], patience: float | None) -> KeptAnswer | None:
         """Return an answer about a history, or the last one about an older state of it, if it is there in time."""
         made: Future[KeptAnswer] | None = None

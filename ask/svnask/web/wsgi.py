@@ -12,7 +12,7 @@ from svnask.asking.parser import parsed
 from svnask.errors import Damaged, Denied, Refused, Usage
 from svnask.links import Links
 from svnask.texts import say
-from svnask.web.asked import Asked, words_of
+from svnask.web.asked import PATIENCE, Asked, words_of
 from svnask.web.checks import checks
 from svnask.web.compare import compare
 from svnask.web.hosts import LOOPBACK, Hosts
@@ -33,8 +33,8 @@ PAGES: dict[str, Callable[[Asked, Request], Page]] = {
     "checks": checks,
     "search": search,
 }
-# The pages of which there are many, and which may take long.
-SLOW = ("path", "compare", "search")
+# The pages that may take long, and how many seconds the first answer waits for one. It has a browser ask again at once.
+SLOW, SOON = ("path", "compare", "search", "checks"), 0.1
 FORMS = {"api": JSON, "csv": CSV, "text": TEXT}
 # What the command prints of some verbs is no plain text.
 SVG = "image/svg+xml"
@@ -153,9 +153,10 @@ class Application:
 
     def _made_soon(self, asked: Asked, request: Request) -> Page:
         """Return a page that another thread makes, or one that says that it is not there yet."""
-        name = f"{request.root} {request.parts} {request.query}"
-        page = asked.kept(name, lambda about: PAGES[request.parts[0]](about, request), among=self._history.pages)
-        return page or Page("error.html", "Please wait", [], [], {"lines": []})
+        name, pages = f"{request.root} {request.parts} {request.query}", self._history.pages
+        patience = PATIENCE if pages.is_being_made(name) else SOON
+        page = asked.kept(name, lambda about: PAGES[request.parts[0]](about, request), patience, pages)
+        return page or Page("wait.html", "Please wait", [], [], {})
 
     def _answer(self, request: Request) -> Response:
         if len(request.parts) != 2:
