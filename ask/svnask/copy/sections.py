@@ -1,10 +1,13 @@
 """Property sections: the properties of a record or a revision in a dump."""
 from __future__ import annotations
 
+import mmap
 import re
-from typing import NamedTuple
+from typing import Union
 
 from svnask.digits import number
+
+Bytes = Union[mmap.mmap, bytes]
 
 LAST_LINE = b"PROPS-END\n"
 MERGEINFO = b"svn:mergeinfo"
@@ -64,23 +67,22 @@ def body_of(section: bytes) -> bytes:
     return b"Prop-content-length: %d\nContent-length: %d\n\n%s\n" % (len(section), len(section), section)
 
 
-def is_one_mergeinfo(section: bytes) -> bool:
-    """Return whether a property section sets `svn:mergeinfo` and nothing else. Long values need not be taken apart
-    then."""
-    if not section.startswith(ONE_MERGEINFO):
-        return False
-    digits, _, _ = section[len(ONE_MERGEINFO) : len(ONE_MERGEINFO) + 32].partition(b"\n")
-    return (
-        digits.isdigit()
-        and len(ONE_MERGEINFO) + len(digits) + int(digits) + 12 == len(section)
-        and section.endswith(b"\n" + LAST_LINE)
-    )
+def one_mergeinfo(whole: Bytes, begin: int, end: int) -> Setting | None:
+    """Return the text that a property section sets, if it sets `svn:mergeinfo` and nothing else. Long texts need not be
+    read then."""
+    head = whole[begin : begin + len(ONE_MERGEINFO) + 32]
+    digits, newline, _ = head[len(ONE_MERGEINFO) :].partition(b"\n")
+    if not head.startswith(ONE_MERGEINFO) or not newline or not digits.isdigit():
+        return None
+    first, last = begin + len(ONE_MERGEINFO) + len(digits) + 1, end - 1 - len(LAST_LINE)
+    is_one = first + int(digits) == last and whole[last:end] == b"\n" + LAST_LINE
+    return Setting(whole, first, last) if is_one else None
 
 
 def mergeinfo_alone(section: bytes, is_delta: bool) -> bytes:
     """A property section with `svn:mergeinfo` alone: its last entry, or each of them where the section has changes. A
     list without it says something, too: that there is none."""
-    if section == LAST_LINE or is_one_mergeinfo(section):
+    if section == LAST_LINE or one_mergeinfo(section, 0, len(section)):
         return section
     entries = entries_of(section, is_delta)
     if len(entries) == 1 and entries[0][0] == MERGEINFO:
@@ -101,20 +103,39 @@ def properties_of(section: bytes) -> dict[bytes, bytes]:
     return values
 
 
-class Setting(NamedTuple):
-    """A change of the mergeinfo of a path: a text, or None where it is taken away."""
+class Setting:
+    """A change of the mergeinfo of a path: a text, or None where it is taken away. The text may be a part of others, of
+    which only the place is kept."""
 
-    text: bytes | None
+    __slots__ = ("_whole", "_first", "_last")
+
+    def __init__(self, whole: Bytes | None, first: int = 0, last: int | None = None) -> None:
+        self._whole, self._first, self._last = whole, first, last
+
+    @property
+    def text(self) -> bytes | None:
+        return None if self._whole is None else self._whole[self._first : self._last]
+
+    def taken(self) -> Setting:
+        """Return the same with the text itself, which stays when the others are closed."""
+        return Setting(self.text)
+
+    def __eq__(self, other: object) -> bool:
+        return isinstance(other, Setting) and self.text == other.text
+
+    def __hash__(self) -> int:
+        return hash(self.text)
 
 
-def setting_of(section: bytes, is_delta: bool) -> Setting | None:
-    """Return what a property section does to mergeinfo."""
-    if not section:
+def setting_of(whole: Bytes, begin: int, end: int, is_delta: bool) -> Setting | None:
+    """Return what the property section between two places does to mergeinfo."""
+    if begin == end:
         return None
-    if is_one_mergeinfo(section):
-        return Setting(section[section.index(b"\n", len(ONE_MERGEINFO)) + 1 : -1 - len(LAST_LINE)])
+    found = one_mergeinfo(whole, begin, end)
+    if found is not None:
+        return found
     try:
-        values = [value for name, value in entries_of(section, is_delta) if name == MERGEINFO]
+        values = [value for name, value in entries_of(whole[begin:end], is_delta) if name == MERGEINFO]
     except Malformed:
         # For this svnhist refuses the dump.
         return None

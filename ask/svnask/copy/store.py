@@ -9,11 +9,11 @@ import re
 import zlib
 from collections.abc import Iterator
 from itertools import chain
-from typing import IO, TYPE_CHECKING, Any, BinaryIO, NamedTuple, Union
+from typing import IO, TYPE_CHECKING, Any, BinaryIO, NamedTuple
 
 from svnask import digits, files
 from svnask.copy.index import Index
-from svnask.copy.sections import LAST_LINE, Setting, body_of, properties_of, setting_of
+from svnask.copy.sections import LAST_LINE, Bytes, Setting, body_of, properties_of, setting_of
 from svnask.copy.writer import FIRST_LINE
 from svnask.errors import Damaged
 from svnask.lazy import Lazy
@@ -27,7 +27,6 @@ else:
 # After how many records what was read is taken out of the process.
 RELEASED_AFTER = 1 << 14
 # A part of a copy.
-Bytes = Union[mmap.mmap, bytes]
 # Of a record the path, the kind, the action, the revision and the path of its source, and what it gave and changed.
 Node = tuple[Any, ...]
 # The parts of a block of the copy, whose headers are in this order.
@@ -264,11 +263,12 @@ class Store:
             yield record_of(found, number, rev, self.index.format)
 
     def telling(self) -> Iterator[Record]:
-        """The records that make or unmake a path, or change its mergeinfo: few of all. They are numbered by themselves."""
+        """The records that make or unmake a path, or change its mergeinfo: few of all. They are numbered by themselves.
+        Their texts can be read until the store is closed."""
         for number, (found, rev) in enumerate(self._telling(), 1):
             if number % RELEASED_AFTER == 0:
                 self.release()
-            record = record_of(found, number, rev, self.index.format)
+            record = lent_record(found, number, rev, self.index.format)
             if record.action != "change" or record.mergeinfo is not None:
                 yield record
 
@@ -335,11 +335,6 @@ def part_of(file: BinaryIO, length: int) -> Bytes:
     return mmap.mmap(file.fileno(), length, access=mmap.ACCESS_READ) if length else b""
 
 
-def section_of_block(found: re.Match[bytes]) -> bytes:
-    """The property section of a block."""
-    return found.string[found.end() : found.end() + digits.number(found["length"] or b"0")]
-
-
 def section_of_revision(found: re.Match[bytes]) -> bytes:
     begin = found.start("section")
     return found.string[begin : begin + int(found["length"] or 0)]
@@ -362,6 +357,13 @@ def revision_of_block(found: re.Match[bytes]) -> Revision:
 
 
 def record_of(found: re.Match[bytes], number: int, rev: int, version: int) -> Record:
+    record = lent_record(found, number, rev, version)
+    return record if record.mergeinfo is None else record._replace(mergeinfo=record.mergeinfo.taken())
+
+
+def lent_record(found: re.Match[bytes], number: int, rev: int, version: int) -> Record:
+    """Return the record of a block, whose text of mergeinfo is a part of that."""
+    end = found.end() + digits.number(found["length"] or b"0")
     path, kind, action, from_rev, from_path, delta, at, text, properties, _ = found.groups()[-10:]
     return Record(
         number,
@@ -370,7 +372,7 @@ def record_of(found: re.Match[bytes], number: int, rev: int, version: int) -> Re
         (action or b"").decode("latin-1"),
         None if kind is None else kind.decode("latin-1"),
         (clean(from_path), digits.number(from_rev)) if from_rev and from_path is not None else None,
-        setting_of(section_of_block(found), version == 3 and delta is not None),
+        setting_of(found.string, found.end(), end, version == 3 and delta is not None),
         digits.number(at),
         text is not None,
         properties is not None,

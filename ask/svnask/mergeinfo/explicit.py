@@ -4,8 +4,11 @@ from __future__ import annotations
 import bisect
 from collections.abc import Iterable, Iterator
 
+from svnask.copy.sections import Setting
 from svnask.copy.store import Record
 from svnask.paths import joined
+
+NOTHING = Setting(None)
 
 
 class Explicit:
@@ -15,7 +18,7 @@ class Explicit:
         self._paths: list[bytes] = []
         # For each path that ever had a text, the revisions in which that changed, and what it had from then on.
         self._revs: dict[bytes, list[int]] = {}
-        self._texts: dict[bytes, list[bytes | None]] = {}
+        self._settings: dict[bytes, list[Setting]] = {}
         # For each revision the paths to which a record gave another text than they had, or what they were copied from.
         self.settings: dict[int, set[bytes]] = {}
         for record in records:
@@ -23,11 +26,12 @@ class Explicit:
 
     def text(self, path: bytes, rev: int) -> bytes | None:
         """The text of a path in a revision."""
-        revs = self._revs.get(path)
-        if revs is None:
-            return None
-        at = bisect.bisect_right(revs, rev)
-        return self._texts[path][at - 1] if at else None
+        return self._setting(path, rev).text
+
+    def _setting(self, path: bytes, rev: int) -> Setting:
+        """Return what gave a path its text in a revision."""
+        at = bisect.bisect_right(self._revs.get(path, ()), rev)
+        return self._settings[path][at - 1] if at else NOTHING
 
     def events(self, path: bytes) -> list[int]:
         """The revisions in which the text of a path was put, changed or taken away, rising."""
@@ -48,30 +52,30 @@ class Explicit:
             return list(self._paths)
         return ([top] if top in self._revs else []) + self._paths[first:last]
 
-    def _put(self, path: bytes, rev: int, text: bytes | None) -> None:
+    def _put(self, path: bytes, rev: int, setting: Setting) -> None:
         if path not in self._revs:
-            if text is None:
+            if setting == NOTHING:
                 return
             bisect.insort(self._paths, path)
-            self._revs[path], self._texts[path] = [], []
+            self._revs[path], self._settings[path] = [], []
         if self._revs[path] and self._revs[path][-1] == rev:
-            self._texts[path][-1] = text
+            self._settings[path][-1] = setting
         else:
             self._revs[path].append(rev)
-            self._texts[path].append(text)
+            self._settings[path].append(setting)
 
     def apply(self, record: Record) -> None:
         """Take the next record of a dump."""
         if record.action != "change":
             for path, _ in list(self.below(record.path, record.rev)):
-                self._put(path, record.rev, None)
+                self._put(path, record.rev, NOTHING)
         if record.source is not None and record.action in ("add", "replace"):
             source, rev = record.source
             top = record.path
-            for path, text in list(self.below(source, rev)):
+            for path, _ in list(self.below(source, rev)):
                 rest = path[len(source) :].lstrip(b"/")
-                self._put(joined(top, rest), record.rev, text)
+                self._put(joined(top, rest), record.rev, self._setting(path, rev))
         if record.mergeinfo is not None and record.action != "delete":
             if record.mergeinfo.text != self.text(record.path, record.rev):
                 self.settings.setdefault(record.rev, set()).add(record.path)
-            self._put(record.path, record.rev, record.mergeinfo.text)
+            self._put(record.path, record.rev, record.mergeinfo)
