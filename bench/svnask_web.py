@@ -1,16 +1,17 @@
 """The pages of a history with 200 branches: the first answer of each, a later one, many at once, and memory.
 
 The history is that of svnask-branches, which merges more than most do. A page that takes long comes in parts, so its
-first answer may not be complete. `complete` is when the first page is.
+first answer may not be complete. `complete` is when the page is. The memory is what is in no file.
 """
 from __future__ import annotations
 
 import re
 import subprocess
+import threading
 import time
 from collections.abc import Iterator
 from concurrent.futures import ThreadPoolExecutor
-from contextlib import contextmanager
+from contextlib import contextmanager, suppress
 from http.client import HTTPConnection
 from pathlib import Path
 
@@ -34,7 +35,7 @@ PAGES = (
     WHERE,
 )
 SLOW = ("/api/log?path=trunk&use-merge-history=1&verbose=1", "/api/graph", "/api/unmerged", "/api/branches?log=1") * 4
-FIRST, LATER, FIRST_OF_OTHERS, MOST_BESIDE, MILLISECONDS, MOST_MEGABYTES = 2.0, 0.2, 0.2, 1.0, 3.3, 300
+FIRST, LATER, FIRST_OF_OTHERS, MOST_BESIDE, MILLISECONDS, MOST_MEGABYTES = 2.0, 0.2, 0.2, 1.0, 3.3, 150
 CLIENTS, QUESTIONS = 4, 300
 INCOMPLETE = b'http-equiv="refresh"'
 
@@ -48,6 +49,8 @@ class Server:
         assert found is not None
         self._place = found[1].decode("ascii")
         self._status = Path(f"/proc/{process.pid}/status")
+        self.most = 0.0
+        threading.Thread(target=self._watch, args=(process,), daemon=True).start()
 
     def ask(self, address: str, count: int = 1) -> bytes:
         """Return the answer, the last one of several."""
@@ -64,9 +67,15 @@ class Server:
         return time.monotonic() - begun
 
     def megabytes(self) -> float:
-        """Return the most memory that the server has had."""
-        found = re.search(r"VmHWM:\s+([0-9]+)", self._status.read_text("ascii"))
+        """Return the memory of the server, without the pages of files, which the system takes back at need."""
+        found = re.search(r"RssAnon:\s+([0-9]+)", self._status.read_text("ascii"))
         return int(found[1]) / 1e3 if found else 0.0
+
+    def _watch(self, process: subprocess.Popen[bytes]) -> None:
+        with suppress(OSError):
+            while process.poll() is None:
+                self.most = max(self.most, self.megabytes())
+                time.sleep(0.05)
 
 
 @contextmanager
@@ -111,7 +120,7 @@ def measured(setup: Setup) -> Tables:
             first = Limited(server.seconds(address), FIRST if each == OVERVIEW else FIRST_OF_OTHERS)
             until = complete(server, address)
             rows.append([f"`{each.format('N')}`", first, until, Limited(server.seconds(address), LATER)])
-        memory = server.megabytes() - begun
+        memory = server.most - begun
         milliseconds, longest = many(server, WHERE.format(count // 2))
     yield Table("svnask-web", "address | first, s:.3f | complete, s:.2f | later, s:.3f", rows)
     of_many: list[Row] = [
