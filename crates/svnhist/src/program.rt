@@ -66,6 +66,7 @@ pub(crate) fn run<
     ensures silent { exit_status result ≡ 0 → errors.new ≡ errors.old }
     ensures quiet { (exit_status result ≡ 0) ⊎ (exit_status result ≡ 3) ⊎ (output.new ≡ output.old) }
     ensures untouched { (output.new ≡ output.old) ⊎ ((O.state output.old).calls < (O.state output.new).calls) }
+    ensures unopened { exit_status result ≡ 2 → files.new ≡ files.old }
     ensures unread { (texts_of arguments ≡ Some []) ⊎ (input.new ≡ input.old) }
     ensures fails_once { (I.state input.new).failures ≤ (I.state input.old).failures + 1 }
     ensures no_texts { IfErr arguments (λ e. error_kind e ≢ ErrorKind.OutOfMemory → exit_status result ≡ 2) }
@@ -121,6 +122,7 @@ fn answer<R: RandomSource + Threads + Wait + Sync, F: Open + Pull, I: Pull>(
         (I.state input.old) (I.state input.new) (texts_of arguments) report.items)) }
     ensures error { IfErr result (IsErrorAsked F.opens F.refuses F.state files.old files.new
         (I.state input.old) (I.state input.new) (texts_of arguments)) }
+    ensures unopened { IfOk result (λ found. IsNone found → files.new ≡ files.old) }
     ensures unread { (texts_of arguments ≡ Some []) ⊎ (input.new ≡ input.old) }
     ensures fails_once { (I.state input.new).failures ≤ (I.state input.old).failures + 1 }
     ensures no_texts { IfErr arguments (λ e. error_kind e ≢ ErrorKind.OutOfMemory → IsOkAnd result IsNone) }

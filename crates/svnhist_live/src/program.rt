@@ -38,6 +38,7 @@ pub(crate) fn run<R: RandomSource + Threads + Wait + Sync, F: Open + Pull, C: Cl
     ensures misused { exit_status result ≡ 2 → IsMisused (texts_of arguments) }
     ensures usage_line { exit_status result ≡ 2 → PrintsLine (E.state errors.old) (E.state errors.new) usage_line }
     ensures untouched { exit_status result ≡ 2 → client.new ≡ client.old }
+    ensures unopened { exit_status result ≡ 2 → files.new ≡ files.old }
     ensures ended { exit_status result ≢ 0 → exit_status result ≢ 2 → IsEnded
         (IsErrorAsked F.opens F.refuses F.state files.old files.new
         (C.input client.old) (C.input client.new) (C.output client.old) (C.output client.new) (texts_of arguments))
@@ -71,6 +72,7 @@ fn talk_asked<R: RandomSource + Threads + Wait + Sync, F: Open + Pull, C: Client
         (C.input client.old) (C.input client.new) (C.output client.old) (C.output client.new) (texts_of arguments)) }
     ensures misused { IfOk result (λ asked. IsFalse asked → IsMisused (texts_of arguments)) }
     ensures untouched { IfOk result (λ asked. IsFalse asked → client.new ≡ client.old) }
+    ensures unopened { IfOk result (λ asked. IsFalse asked → files.new ≡ files.old) }
     ensures error { IfErr result (IsErrorAsked F.opens F.refuses F.state files.old files.new
         (C.input client.old) (C.input client.new) (C.output client.old) (C.output client.new) (texts_of arguments)) }
     ensures output_once { (C.output client.new).failures ≤ (C.output client.old).failures + 1 }
