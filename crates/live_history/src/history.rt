@@ -5,6 +5,7 @@ use crate::read_ahead::ReadAhead;
 use crate::talk_error::TalkError;
 use devices::Pull;
 use query_answer::Repo;
+use query_pool::Workers;
 use std::alloc::{AllocError, Global};
 use std::random::RandomSource;
 use std::sync::Wait;
@@ -22,7 +23,6 @@ pub(crate) struct History {
 
 impl History {
     ghost use Rattle.std.specs.Prelude.{◌≡◌, ◌+◌, ◌*◌, ◌^◌, ◌<◌, ◌≤◌, ℕ, List, length, IfErr, IfOk, IsErrOf, OnOk};
-    ghost use Rattle.query_pool.specs.Serving.{most_workers};
     ghost use Rattle.svn_dump.specs.Draft.{IsWholeHistory};
     ghost use Rattle.svn_dump.specs.Dump.{history_in_bytes};
     ghost use Rattle.svn_report.specs.Load.{most_reads};
@@ -41,10 +41,8 @@ impl History {
         rt: &R,
         alloc: Global,
         dump: &mut D,
-        workers: usize,
+        workers: Workers,
     ) -> Result<Self, RunError>
-        requires some_worker { 0 < workers }
-        requires few_workers { workers ≤ most_workers }
         ensures ok { IfOk result (IsHistoryFrom (D.state dump.old) (D.state dump.new)) }
         ensures whole { IfOk result (λ history. IsWholeHistory history.repo) }
         ensures few { IfOk result (λ history. history.paused.count ≤ most_reads * most_bytes) }
@@ -55,7 +53,7 @@ impl History {
     {
         let feed = feed_from(alloc, Seed::random(rt), dump)?;
         let (dump, paused) = feed.pause()?;
-        let repo = load_repo(rt, alloc, dump, &[], workers)?;
+        let repo = load_repo(rt, alloc, dump, &[], workers.count)?;
         Ok(History { repo, paused })
     }
 
@@ -65,7 +63,7 @@ impl History {
         rt: &R,
         alloc: Global,
         size: u64,
-        workers: usize,
+        workers: Workers,
         ahead: &mut ReadAhead,
         client: &mut C,
     ) -> Result<Self, TalkError>
@@ -74,8 +72,6 @@ impl History {
         requires near { length ahead.old.unread ≤ most_bytes }
         requires piece { IsPieceNext (C.first client.old) (C.output client.old)
             (stream ahead.old (C.input client.old)).come size }
-        requires some_worker { 0 < workers }
-        requires few_workers { workers ≤ most_workers }
         ensures ok { IfOk result (λ grown. (before : List ℕ) → IsHistoryOf before self
             → IsGrown before size (stream ahead.old (C.input client.old)) (stream ahead.new (C.input client.new))
             grown) }
@@ -98,7 +94,7 @@ impl History {
         let mut feed = paused.resume(dump);
         feed_piece(&mut feed, size, ahead, client)?;
         let (dump, paused) = feed.pause()?;
-        let repo = grow_repo(rt, alloc, dump, index, map, workers)?;
+        let repo = grow_repo(rt, alloc, dump, index, map, workers.count)?;
         Ok(History { repo, paused })
     }
 

@@ -2,7 +2,6 @@
 ghost use Rattle.std.specs.Prelude.{◌≡◌, ◌+◌, ◌^◌, ◌<◌, ◌≤◌, length, IfErr, IfOk, IfSome, IsErrOf, IsFalse, IsTrue, OnOk};
 ghost use Rattle.devices.specs.Device.{PullState};
 ghost use Rattle.std.specs.List.{flat_map};
-ghost use Rattle.query_pool.specs.Serving.{most_workers};
 ghost use Rattle.svn_text.specs.Line.{line_text};
 ghost use Rattle.svn_dump.specs.Dump.{history_in_bytes};
 ghost use Rattle.svn_report.specs.Answering.{lent_lines};
@@ -22,6 +21,7 @@ use crate::read_ahead::ReadAhead;
 use crate::talk_error::TalkError;
 use crate::turns::{Next, first_queries, read_next};
 use query_answer::Repo;
+use query_pool::Workers;
 use std::alloc::{AllocError, Global};
 use std::sync::Wait;
 use std::thread::Threads;
@@ -36,13 +36,11 @@ pub(crate) fn reply_up_to_piece<R: Threads + Wait + Sync, C: Client>(
     rt: &R,
     alloc: Global,
     repo: &Repo,
-    workers: usize,
+    workers: Workers,
     answered: &mut u32,
     ahead: &mut ReadAhead,
     client: &mut C,
 ) -> Result<Option<u64>, TalkError>
-    requires some_worker { 0 < workers }
-    requires few_workers { workers ≤ most_workers }
     requires few_answered { answered.old ≤ most_answered }
     requires replied { IsCaughtUp (C.first client.old) (C.output client.old)
         (stream ahead.old (C.input client.old)).come answered.old
@@ -90,7 +88,7 @@ fn reply_to_queries<'r, R: Threads + Wait + Sync, C: Client>(
     alloc: Global,
     repo: &'r Repo,
     memo: &Memo<'r>,
-    workers: usize,
+    workers: Workers,
     answered: &mut u32,
     ahead: &mut ReadAhead,
     client: &mut C,
@@ -98,8 +96,6 @@ fn reply_to_queries<'r, R: Threads + Wait + Sync, C: Client>(
     requires query { HasQuery ahead.old.unread }
     requires near { AreNear ahead.old.unread }
     requires cells { length repo.now.values ≤ length memo.now }
-    requires some_worker { 0 < workers }
-    requires few_workers { workers ≤ most_workers }
     requires few_answered { answered.old ≤ most_answered }
     ensures ok { OnOk result ((state : TalkState) → IsLawfulDump state.dump (history_in_bytes repo.now)
         → state.answered ≡ answered.old → (input : PullState)
@@ -118,7 +114,7 @@ fn reply_to_queries<'r, R: Threads + Wait + Sync, C: Client>(
     ensures input { C.input client.new ≡ C.input client.old }
     ensures first { C.first client.new ≡ C.first client.old }
 {
-    let most = (SHARE * workers).min((u32::MAX - *answered) as usize);
+    let most = (SHARE * workers.count).min((u32::MAX - *answered) as usize);
     if most == 0 {
         return Err(TalkError::TooMany);
     }
@@ -140,16 +136,14 @@ fn reply_text<'r, R: Threads + Wait + Sync>(
     memo: &Memo<'r>,
     answered: u32,
     lines: &[&[u8]],
-    workers: usize,
+    workers: Workers,
 ) -> Result<Vec<u8>, AllocError>
     requires cells { length repo.now.values ≤ length memo.now }
     requires few { length lines.now ≤ most_queries }
     requires numbered { answered + length lines.now < 2 ^ 32 }
-    requires some_worker { 0 < workers }
-    requires few_workers { workers ≤ most_workers }
     ensures { IfOk result (λ text. text.items ≡ replies repo.now answered (lent_lines lines.now)) }
 {
-    let texts = answer_batch(rt, alloc, repo, memo, answered, lines, workers)?;
+    let texts = answer_batch(rt, alloc, repo, memo, answered, lines, workers.count)?;
     with_empty_lines(alloc, texts.as_slice())
 }
 

@@ -20,6 +20,7 @@ use crate::read_ahead::ReadAhead;
 use crate::replies::reply_up_to_piece;
 use crate::talk_error::TalkError;
 use devices::Pull;
+use query_pool::Workers;
 use std::alloc::Global;
 use std::random::RandomSource;
 use std::sync::Wait;
@@ -57,6 +58,7 @@ pub fn talk<R: RandomSource + Threads + Wait + Sync, D: Pull, C: Client>(
     ensures output_once { (C.output client.new).failures ≤ (C.output client.old).failures + 1 }
 {
     let mut ahead = ReadAhead::new(alloc)?;
+    let workers = Workers { count: workers };
     let history = History::read(rt, alloc, dump, workers)?;
     match say_ready(alloc, &history, client) {
         Ok(()) => take_turns(rt, alloc, history, workers, &mut ahead, client),
@@ -90,14 +92,12 @@ fn take_turns<R: Threads + Wait + Sync, C: Client>(
     rt: &R,
     alloc: Global,
     history: History,
-    workers: usize,
+    workers: Workers,
     ahead: &mut ReadAhead,
     client: &mut C,
 ) -> Result<(), TalkError>
     requires whole { IsWholeHistory history.repo }
     requires few { history.paused.count + room ahead.old < 2 ^ 64 }
-    requires some_worker { 0 < workers }
-    requires few_workers { workers ≤ most_workers }
     requires replied { IsCaughtUp (C.first client.old) (C.output client.old)
         (stream ahead.old (C.input client.old)).come 0 (λ dump. IsHistoryOf dump history) }
     ensures ok { OnOk result ((state : TalkState) → IsHistoryOf state.dump history → state.answered ≡ 0
@@ -138,15 +138,13 @@ fn take_piece<R: Threads + Wait + Sync, C: Client>(
     rt: &R,
     alloc: Global,
     history: History,
-    workers: usize,
+    workers: Workers,
     answered: &mut u32,
     ahead: &mut ReadAhead,
     client: &mut C,
 ) -> Result<Option<History>, TalkError>
     requires whole { IsWholeHistory history.repo }
     requires few { history.paused.count + room ahead.old < 2 ^ 64 }
-    requires some_worker { 0 < workers }
-    requires few_workers { workers ≤ most_workers }
     requires few_answered { answered.old ≤ most_answered }
     requires replied { IsCaughtUp (C.first client.old) (C.output client.old)
         (stream ahead.old (C.input client.old)).come answered.old (λ dump. IsHistoryOf dump history) }

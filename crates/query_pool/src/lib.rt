@@ -15,6 +15,7 @@ mod job;
 mod part;
 mod progress;
 mod serving;
+mod workers;
 
 pub use error::GatherError;
 pub use gate::{Gate, NoGate};
@@ -22,3 +23,4 @@ pub use gathering::gather;
 pub use job::Job;
 pub use part::Part;
 pub use serving::{MOST_PLACES, MOST_WORKERS, serve};
+pub use workers::Workers;

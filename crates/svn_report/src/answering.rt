@@ -5,12 +5,11 @@ ghost use Rattle.svn_dump.specs.Dump.{history_in_bytes};
 ghost use Rattle.svn_report.specs.Answering.{answers_to_batch, partial_text};
 ghost use Rattle.svn_report.specs.QueryLines.{query_lines};
 ghost use Rattle.svn_report.specs.Report.{answers, most_queries};
-ghost use Rattle.query_pool.specs.Serving.{most_workers};
 
 use crate::batch::Batch;
 use crate::query_lines::lines_of;
 use query_answer::Repo;
-use query_pool::Gate;
+use query_pool::{Gate, Workers};
 use std::alloc::{AllocError, Global};
 use std::sync::Wait;
 use std::thread::{self, Threads};
@@ -28,12 +27,10 @@ pub(crate) fn answer_lines<R: Threads + Wait + Sync, G: Gate>(
     alloc: Global,
     repo: &Repo,
     queries: &[u8],
-    workers: usize,
+    workers: Workers,
     gate: &G,
 ) -> Result<Vec<u8>, AllocError>
     requires few_queries { length (query_lines queries.now) ≤ most_queries }
-    requires some_worker { 0 < workers }
-    requires few_workers { workers ≤ most_workers }
     requires gate { (place : ℕ) → place < length (query_lines queries.now) → G.watches gate.now place }
     ensures { IfOk result (λ out. out.items ≡ answers (history_in_bytes repo.now) queries.now) }
 {
@@ -51,13 +48,11 @@ fn answer_batches<'r, R: Threads + Wait + Sync, G: Gate>(
     repo: &'r Repo,
     memo: &Memo<'r>,
     lines: &[&[u8]],
-    workers: usize,
+    workers: Workers,
     gate: &G,
 ) -> Result<Vec<u8>, AllocError>
     requires cells { length repo.now.values ≤ length memo.now }
     requires few_queries { length lines.now ≤ most_queries }
-    requires some_worker { 0 < workers }
-    requires few_workers { workers ≤ most_workers }
     requires gate { (place : ℕ) → place < length lines.now → G.watches gate.now place }
     ensures { IfOk result (λ out. out.items ≡ answers_to_batch repo.now 0 lines.now) }
 {
@@ -66,7 +61,7 @@ fn answer_batches<'r, R: Threads + Wait + Sync, G: Gate>(
         texts: Vec::new(alloc),
     };
     let mut done = 0;
-    let mut size = FIRST_SHARE * workers;
+    let mut size = FIRST_SHARE * workers.count;
     'batches: while done < lines.len() {
         let (_, left) = lines.split_at(done);
         let (batch_lines, _) = left.split_at(size.min(left.len()));
@@ -99,18 +94,16 @@ impl PartialReport {
         self,
         rt: &R,
         batch: &Batch,
-        workers: usize,
+        workers: Workers,
         gate: &G,
     ) -> Result<Self, AllocError>
-        requires some_worker { 0 < workers }
-        requires few_workers { workers ≤ most_workers }
         requires gate { (place : ℕ) → place < length batch.now.lines.now
             → G.watches gate.now (batch.now.first + place) }
         ensures { IfOk result (λ after. partial_text after
             ≡ partial_text self ++ answers_to_batch batch.now.repo.now batch.now.first batch.now.lines.now) }
     {
         let PartialReport { report, texts } = self;
-        if workers == 1 || texts.is_empty() {
+        if workers.count == 1 || texts.is_empty() {
             let report = with_texts(report, texts.as_slice())?;
             drop(texts);
             let texts = batch.answers(rt, workers, gate)?;
@@ -122,8 +115,6 @@ impl PartialReport {
                 after.items ≡ report.items ++ flat_map (λ text. text.items) joined.entry.now) }
         { with_texts(report, joined) };
         let answering = move || -> Result<Vec<Vec<u8>>, AllocError>
-            requires some_worker { 0 < workers }
-            requires few_workers { workers ≤ most_workers }
             requires gate { (place : ℕ) → place < length batch.now.lines.now
                 → G.watches gate.now (batch.now.first + place) }
             ensures { IfOk result (λ texts. flat_map (λ text. text.items) texts.items

@@ -6,7 +6,7 @@ ghost use Rattle.svn_report.specs.Answering.{answers_to_batch, texts_to_batch};
 ghost use Rattle.svn_report.specs.Report.{most_queries};
 
 use query_answer::{Query, Repo, answer};
-use query_pool::{Gate, GatherError, Job, NoGate, gather, serve};
+use query_pool::{Gate, GatherError, Job, NoGate, Workers, gather, serve};
 use std::alloc::{AllocError, Global};
 use std::sync::Wait;
 use std::thread::Threads;
@@ -64,11 +64,9 @@ impl Batch<'_, '_> {
     pub(crate) fn answers<R: Threads + Wait + Sync, G: Gate>(
         &self,
         rt: &R,
-        workers: usize,
+        workers: Workers,
         gate: &G,
     ) -> Result<Vec<Vec<u8>>, AllocError>
-        requires some_worker { 0 < workers }
-        requires few_workers { workers ≤ most_workers }
         requires gate { (at : ℕ) → at < length self.now.lines.now → G.watches gate.now (self.now.first + at) }
         ensures texts { IfOk result (λ texts. map (λ text. text.items) texts.items
             ≡ texts_to_batch self.now.repo.now self.now.first self.now.lines.now) }
@@ -80,7 +78,7 @@ impl Batch<'_, '_> {
             gate,
             first: self.first,
         };
-        let parts = serve(rt, self.alloc, self, n, workers, &gate)?;
+        let parts = serve(rt, self.alloc, self, n, workers.count, &gate)?;
         match gather(self.alloc, parts, n) {
             Ok(texts) => Ok(texts),
             Err(GatherError::Memory) => Err(AllocError),
@@ -114,7 +112,7 @@ pub fn answer_batch<'r, R: Threads + Wait + Sync>(
         first,
         lines,
     };
-    batch.answers(rt, workers, &NoGate)
+    batch.answers(rt, Workers { count: workers }, &NoGate)
 }
 
 /// The gate of a run, which is called with the places that the queries of a batch have in the run.

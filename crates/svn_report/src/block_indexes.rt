@@ -1,10 +1,10 @@
 //! The index of a dump, joined of the indexes of blocks.
 ghost use Rattle.std.specs.Prelude.{◌≡◌, ◌<◌, ◌≤◌, IfOk, length};
 ghost use Rattle.svn_report.specs.Blocks.{AreBorders};
-ghost use Rattle.query_pool.specs.Serving.{most_workers};
 
 use par_scan::{Make, make_all, total};
 use path_index::Index;
+use query_pool::Workers;
 use std::alloc::{AllocError, Global};
 use std::thread::Threads;
 use svn_dump::{Dump, NodeRecord};
@@ -48,11 +48,9 @@ pub(crate) fn index_of<R: Threads + Sync>(
     alloc: Global,
     dump: &Dump,
     borders: &[usize],
-    workers: usize,
+    workers: Workers,
 ) -> Result<Index, AllocError>
     requires borders { AreBorders 0 (length dump.now.records) borders.now }
-    requires some_worker { 0 < workers }
-    requires few_workers { workers ≤ most_workers }
     ensures records { IfOk result (λ index. index.records ≡ dump.now.records) }
     ensures first { IfOk result (λ index. index.first ≡ 0) }
 {
@@ -63,8 +61,8 @@ pub(crate) fn index_of<R: Threads + Sync>(
         records: dump.records(),
         borders,
     };
-    let indexes = make_all(rt, alloc, &blocks, borders.len() - 1, workers)?;
-    match total(rt, alloc, indexes, workers)? {
+    let indexes = make_all(rt, alloc, &blocks, borders.len() - 1, workers.count)?;
+    match total(rt, alloc, indexes, workers.count)? {
         Some(index) => Ok(index),
         None => Index::build_with_seed(alloc, seed, &[], 0),
     }

@@ -4,10 +4,10 @@ ghost use Rattle.svn_dump.specs.Dump.{IsDump};
 ghost use Rattle.block_map.specs.Ends.{ends_of};
 ghost use Rattle.block_map.specs.Map.{IsMapOf, nodes_for, records_at_ticks};
 ghost use Rattle.svn_report.specs.Blocks.{AreBorders};
-ghost use Rattle.query_pool.specs.Serving.{most_workers};
 
 use block_map::{Ends, Map};
 use par_scan::{Make, make_all, total};
+use query_pool::Workers;
 use std::alloc::{AllocError, Global};
 use std::thread::Threads;
 use svn_dump::{Dump, NodeRecord};
@@ -50,12 +50,10 @@ pub(crate) fn map_of<R: Threads + Sync>(
     dump: &Dump,
     ends: &Ends,
     borders: &[usize],
-    workers: usize,
+    workers: Workers,
 ) -> Result<Map, AllocError>
     requires ends { ends.now ≡ ends_of dump.now.counts }
     requires borders { AreBorders 0 (length dump.now.records) borders.now }
-    requires some_worker { 0 < workers }
-    requires few_workers { workers ≤ most_workers }
     ensures map { IfOk result (IsMapOf dump.now) }
     ensures nodes { IfOk result (λ map. map.nodes ≤ nodes_for (records_at_ticks ends.now dump.now.records)) }
     ensures kept { IsDump dump.now }
@@ -66,8 +64,8 @@ pub(crate) fn map_of<R: Threads + Sync>(
         ends,
         borders,
     };
-    let maps = make_all(rt, alloc, &blocks, borders.len() - 1, workers)?;
-    match total(rt, alloc, maps, workers)? {
+    let maps = make_all(rt, alloc, &blocks, borders.len() - 1, workers.count)?;
+    match total(rt, alloc, maps, workers.count)? {
         Some(map) => Ok(map),
         None => Map::build(alloc, &[], 0, ends),
     }

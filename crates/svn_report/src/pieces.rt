@@ -11,7 +11,7 @@ use crate::query_lines::count_lines;
 use crate::reporting::{MOST_QUERIES, report_on};
 use crate::run_error::RunError;
 use devices::{Pull, Source};
-use query_pool::Gate;
+use query_pool::{Gate, Workers};
 use std::alloc::Global;
 use std::random::RandomSource;
 use std::sync::Wait;
@@ -54,6 +54,7 @@ pub fn report_from<R: RandomSource + Threads + Wait + Sync, P: Pull, G: Gate>(
         return Err(RunError::TooMany);
     }
     let dump = read_dump(alloc, Seed::random(rt), input)?;
+    let workers = Workers { count: workers };
     report_on(rt, alloc, dump, queries, cuts, workers, gate)
 }
 

@@ -3,10 +3,10 @@ ghost use Rattle.std.specs.Prelude.{◌≡◌, ◌<◌, ◌≤◌, All, IfOk, le
 ghost use Rattle.svn_dump.specs.Dump.{IsDump};
 ghost use Rattle.svn_report.specs.Blocks.{AreBorders};
 ghost use Rattle.svn_report.specs.RecordEnds.{AreRecordBorders, AreRecordEnds, sum_at, sum_of};
-ghost use Rattle.query_pool.specs.Serving.{most_workers};
 
 use crate::cutting::{block_ends, share_out};
 use par_scan::{Sum, scan};
+use query_pool::Workers;
 use std::alloc::{AllocError, Global};
 use std::thread::Threads;
 use svn_dump::Dump;
@@ -19,18 +19,16 @@ pub(crate) fn record_borders(
     dump: &Dump,
     sums: &[Sum],
     cuts: &[u32],
-    workers: usize,
+    workers: Workers,
 ) -> Result<Vec<usize>, AllocError>
     requires sums { AreRecordEnds dump.now.counts sums.now }
     requires cuts { All (λ length. 0 < length) cuts.now }
-    requires some_worker { 0 < workers }
-    requires few_workers { workers ≤ most_workers }
-    ensures exact { IfOk result (λ borders. AreRecordBorders cuts.now workers dump.now.counts borders.items) }
+    ensures exact { IfOk result (λ borders. AreRecordBorders cuts.now workers.count dump.now.counts borders.items) }
     ensures rise { IfOk result (λ borders. AreBorders 0 (length dump.now.records) borders.items) }
 {
     let ends = block_ends(alloc, cuts, dump.counts().len() - 1)?;
     let borders = sums_at(alloc, sums, ends.as_slice())?;
-    share_out(alloc, borders.as_slice(), workers)
+    share_out(alloc, borders.as_slice(), workers.count)
 }
 
 /// For each revision how many records the revisions up to it have.
@@ -38,15 +36,13 @@ pub(crate) fn record_ends<R: Threads + Sync>(
     rt: &R,
     alloc: Global,
     dump: &Dump,
-    workers: usize,
+    workers: Workers,
 ) -> Result<Vec<Sum>, AllocError>
-    requires some_worker { 0 < workers }
-    requires few_workers { workers ≤ most_workers }
     ensures exact { IfOk result (λ sums. AreRecordEnds dump.now.counts sums.items) }
     ensures kept { IsDump dump.now }
 {
     let sums = sums_of(alloc, dump.counts())?;
-    scan(rt, alloc, sums, workers)
+    scan(rt, alloc, sums, workers.count)
 }
 
 /// The counts as sums.

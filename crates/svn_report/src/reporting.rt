@@ -11,7 +11,7 @@ use crate::query_lines::count_lines;
 use crate::repository::load_repo;
 use crate::run_error::RunError;
 use query_answer::Repo;
-use query_pool::{Gate, MOST_PLACES};
+use query_pool::{Gate, MOST_PLACES, Workers};
 use std::alloc::Global;
 use std::random::RandomSource;
 use std::sync::Wait;
@@ -56,6 +56,7 @@ pub fn report<R: RandomSource + Threads + Wait + Sync, G: Gate>(
         return Err(RunError::TooMany);
     }
     let dump = read_with_seed(alloc, Seed::random(rt), dump)?;
+    let workers = Workers { count: workers };
     report_on(rt, alloc, dump, queries, cuts, workers, gate)
 }
 
@@ -66,18 +67,16 @@ pub(crate) fn report_on<R: Threads + Wait + Sync, G: Gate>(
     dump: Dump,
     queries: &[u8],
     cuts: &[u32],
-    workers: usize,
+    workers: Workers,
     gate: &G,
 ) -> Result<Vec<u8>, RunError>
     requires few_queries { AreFew queries.now }
     requires cuts { All (λ length. 0 < length) cuts.now }
-    requires some_worker { 0 < workers }
-    requires few_workers { workers ≤ most_workers }
     requires gate { (place : ℕ) → place < length (query_lines queries.now) → G.watches gate.now place }
     ensures ok { IfOk result (λ report. IsReportOn (history_in_bytes dump) queries.now report.items) }
     ensures error { IfErr result (IsHistoryError (history_in_bytes dump)) }
 {
-    let repo = load_repo(rt, alloc, dump, cuts, workers)?;
+    let repo = load_repo(rt, alloc, dump, cuts, workers.count)?;
     let answers = answered(rt, alloc, &repo, queries, workers, gate);
     drop(repo);
     answers
@@ -89,12 +88,10 @@ fn answered<R: Threads + Wait + Sync, G: Gate>(
     alloc: Global,
     repo: &Repo,
     queries: &[u8],
-    workers: usize,
+    workers: Workers,
     gate: &G,
 ) -> Result<Vec<u8>, RunError>
     requires few_queries { AreFew queries.now }
-    requires some_worker { 0 < workers }
-    requires few_workers { workers ≤ most_workers }
     requires gate { (place : ℕ) → place < length (query_lines queries.now) → G.watches gate.now place }
     ensures ok { IfOk result (λ report. report.items ≡ answers (history_in_bytes repo.now) queries.now) }
     ensures error { IfErr result (λ e. e ≡ RunError.Memory) }

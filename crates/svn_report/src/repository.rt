@@ -18,6 +18,7 @@ use crate::record_borders::{record_borders, record_ends};
 use block_map::{Ends, Fault, Map, check_from};
 use path_index::Index;
 use query_answer::Repo;
+use query_pool::Workers;
 use std::alloc::{AllocError, Global};
 use std::thread::{self, Threads};
 use svn_dump::Dump;
@@ -62,6 +63,7 @@ pub fn load_repo<R: Threads + Sync>(
     ensures lawful { OnOk result (first_fault bytes_eq (history_in_bytes dump) ≡ None) }
     ensures faulty { IfErr result (IsLoadError dump) }
 {
+    let workers = Workers { count: workers };
     let sums = record_ends(rt, alloc, &dump, workers)?;
     let borders = record_borders(alloc, &dump, sums.as_slice(), cuts, workers)?;
     let ends = Ends::new(sums);
@@ -86,6 +88,7 @@ pub fn grow_repo<R: Threads + Sync>(
     ensures lawful { OnOk result (first_fault bytes_eq (history_in_bytes dump) ≡ None) }
     ensures faulty { IfErr result (IsLoadError dump) }
 {
+    let workers = Workers { count: workers };
     let (ends, map, index) = grown_parts(rt, alloc, &dump, index, map, workers)?;
     Ok(Repo::new(dump, index, map, ends))
 }
@@ -97,11 +100,9 @@ fn grown_parts<R: Threads + Sync>(
     dump: &Dump,
     index: Index,
     map: Map,
-    workers: usize,
+    workers: Workers,
 ) -> Result<(Ends, Map, Index), LoadError>
     requires before { AreOfDumpBefore dump.now index map }
-    requires some_worker { 0 < workers }
-    requires few_workers { workers ≤ most_workers }
     ensures ends { IfOk result (λ parts. parts.0 ≡ ends_of dump.now.counts) }
     ensures map { IfOk result (λ parts. IsMapOf dump.now parts.1) }
     ensures index { IfOk result (λ parts. IsIndexOf dump.now.records parts.2) }
@@ -146,30 +147,27 @@ fn map_and_index<R: Threads + Sync>(
     dump: &Dump,
     ends: &Ends,
     borders: &[usize],
-    workers: usize,
+    workers: Workers,
 ) -> Result<(Map, Index), LoadError>
     requires ends { ends.now ≡ ends_of dump.now.counts }
     requires borders { AreBorders 0 (length dump.now.records) borders.now }
-    requires some_worker { 0 < workers }
-    requires few_workers { workers ≤ most_workers }
     ensures map { IfOk result (λ both. IsMapOf dump.now both.0) }
     ensures index { IfOk result (λ both. IsIndexOf dump.now.records both.1) }
     ensures lawful { OnOk result (first_fault same_name (history_view dump.now) ≡ None) }
     ensures faulty { IfErr result (IsLoadError dump.now) }
 {
-    if workers == 1 {
+    if workers.count == 1 {
         let map = lawful_map(rt, alloc, dump, ends, borders, workers)?;
         let index = index_of(rt, alloc, dump, borders, workers)?;
         return Ok((map, index));
     }
     let indexing = move || -> Result<Index, AllocError>
-        requires { IsSync R.row × AreBorders 0 (length dump.now.records) borders.now
-            × (0 < workers) × (workers ≤ most_workers) }
+        requires { IsSync R.row × AreBorders 0 (length dump.now.records) borders.now }
         ensures { IfOk result (IsIndexOf dump.entry.now.records) }
     { index_of(rt, alloc, dump, borders, workers) };
     let mapping = move || -> Result<Map, LoadError>
         requires { IsSync R.row × (ends.now ≡ ends_of dump.now.counts)
-            × AreBorders 0 (length dump.now.records) borders.now × (0 < workers) × (workers ≤ most_workers) }
+            × AreBorders 0 (length dump.now.records) borders.now }
         ensures { IfOk result (IsMapOf dump.entry.now)
             × OnOk result (first_fault same_name (history_view dump.entry.now) ≡ None)
             × IfErr result (IsLoadError dump.entry.now) }
@@ -186,12 +184,10 @@ fn lawful_map<R: Threads + Sync>(
     dump: &Dump,
     ends: &Ends,
     borders: &[usize],
-    workers: usize,
+    workers: Workers,
 ) -> Result<Map, LoadError>
     requires ends { ends.now ≡ ends_of dump.now.counts }
     requires borders { AreBorders 0 (length dump.now.records) borders.now }
-    requires some_worker { 0 < workers }
-    requires few_workers { workers ≤ most_workers }
     ensures map { IfOk result (λ map. IsMapOf dump.now map) }
     ensures lawful { OnOk result (first_fault same_name (history_view dump.now) ≡ None) }
     ensures faulty { IfErr result (IsLoadError dump.now) }

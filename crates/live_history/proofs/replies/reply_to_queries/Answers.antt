@@ -1,16 +1,11 @@
-use Rattle.std.proofs.Common.{◌≡◌, ◌+◌, ◌-◌, length, take, drop, sym, ap, subst, ◌∙◌, arith, length-drop, rules}
-use Rattle.std.specs.Io.KnownBytes.{Appends}
-use Rattle.std.proofs.lemmas.List.{length-map}
-use Rattle.std.proofs.lemmas.Result.{err_from_is_err_and}
+use Rattle.live_history.proofs.Common.{◌≡◌, ◌+◌, ◌-◌, length, take, drop, sym, ap, subst, ◌∙◌, arith, length-drop, rules, Appends, length-map, err_from_is_err_and, replies, AreQueries}
 use Rattle.svn_report.specs.Answering.{lent_lines}
-use Rattle.live_history.specs.Replies.{replies}
-use Rattle.live_history.specs.Turns.{AreQueries}
 use Rattle.live_history.proofs.Queries.{AreRepliedTo-queries, IsEndEarly-many, IsEndEarly-memory, IsEndEarly-part, less-queries}
 use Rattle.live_history.proofs.replies.reply_to_queries.Goals as goal
 
 pub returns-then-most-eq0-clause-error : goal.returns-then-most-eq0-clause-error
 returns-then-most-eq0-clause-error g c = λ state is same input.
-    IsEndEarly-many state (omega (arith, same, c.requires.few_answered)) c.args.ahead.now input (g.C.Client.output c.args.client.now) c.requires.query c.requires.near (omega (arith, same, c.if-most-eq0.true, c.min-most.ensures, c.requires.some_worker))
+    IsEndEarly-many state (omega (arith, same, c.requires.few_answered)) c.args.ahead.now input (g.C.Client.output c.args.client.now) c.requires.query c.requires.near (omega (arith, same, c.if-most-eq0.true, c.min-most.ensures, c.args.workers.some))
 
 pub returns-in_err-lines-clause-error : goal.returns-in_err-lines-clause-error
 returns-in_err-lines-clause-error g c =

@@ -1,8 +1,4 @@
-use Rattle.std.proofs.Common.{◌≡◌, ◌-◌, ◌<◌, All, length, map, sym, ap, subst, arith, ◌∙◌}
-use Rattle.std.proofs.lemmas.Result.{IfOk-weaker}
-use Rattle.svn_report.specs.Blocks.{AreBorders}
-use Rattle.svn_report.specs.Cutting.{AreBlockEnds, AreBordersLeft}
-use Rattle.svn_report.specs.RecordEnds.{sum_at}
+use Rattle.svn_report.proofs.Common.{◌≡◌, ◌-◌, ◌<◌, All, length, map, sym, ap, subst, arith, ◌∙◌, IfOk-weaker, AreBorders, AreBlockEnds, AreBordersLeft, sum_at}
 use Rattle.svn_report.proofs.RecordEnds.{AreBorders-read, ends-below, last_border-read, map-sum_at}
 use Rattle.svn_report.proofs.record_borders.record_borders.Goals as goal
 use Rattle.svn_report.proofs.record_borders.record_borders.Goals.{In_ok-borders, In_ok-ends}
@@ -46,7 +42,7 @@ returns-clause-exact c =
     (λ kept left. record {
       ends = ends;
       are = subst (λ n. AreBlockEnds c.args.cuts.now (n - 1) ends) (ap length c.counts.ensures.value) c.in_ok-ends.ensures.exact;
-      left = subst (λ l. AreBordersLeft c.args.workers l kept.items) (c.as_slice-2.ensures.value ∙ sums_of at.In_ok-borders ∙ read) left;
+      left = subst (λ l. AreBordersLeft c.args.workers.count l kept.items) (c.as_slice-2.ensures.value ∙ sums_of at.In_ok-borders ∙ read) left;
     })
     c.share_out.ensures.exact
 
