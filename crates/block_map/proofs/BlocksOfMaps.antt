@@ -1,25 +1,8 @@
 -- The blocks of a map: where they stand, and what they say together.
-use Rattle.std.proofs.Common.{◌≡◌, ◌≢◌, ℕ, zero, suc, ◌+◌, ◌^◌, ◌<◌, ◌≤◌, All, List, [], ◌∷◌, ◌++◌, get_or, length, refl, sym, ap, subst, ◌∙◌, arith, append-nil, length-append}
-use Rattle.std.specs.Arc.{arc_value}
-use Rattle.std.specs.declared.sync.Arc.{Arc}
-use Rattle.std.specs.Global.{Global}
+use Rattle.block_map.proofs.Common.{◌≡◌, ◌≢◌, ℕ, zero, suc, ◌+◌, ◌^◌, ◌<◌, ◌≤◌, All, List, [], ◌∷◌, ◌++◌, get_or, length, refl, sym, ap, subst, ◌∙◌, arith, append-nil, length-append, arc_value, Arc, Global, flat_map-append, map-append, All-head, sum_by-append, sum_by-cons, same_name, NameId, Record, ValueId, AreBlocksBefore, AreBlocksFrom, block_nodes, block_records, block_trees, Found, look, resolved, with_mergeinfo, look_through, most_nodes, nodes_for, AreMapTrees, end_of_trees, look_in_trees, Trees}
 use Rattle.std.specs.List.Sorted.{IsNonDecreasingBy}
 use Rattle.std.specs.Prelude.{Option}
-use Rattle.std.proofs.lemmas.Grind.{flat_map-append}
-use Rattle.std.proofs.lemmas.List.{map-append}
-use Rattle.std.proofs.lemmas.List.Elements.{All-head}
-use Rattle.std.proofs.lemmas.List.Sums.{sum_by-append, sum_by-cons}
-use Rattle.svn_path.specs.Path.{same_name}
-use Rattle.svn_path.specs.declared.names.NameId.{NameId}
-use Rattle.svn_dump.specs.History.{Record}
-use Rattle.svn_dump.specs.declared.record.ValueId.{ValueId}
-use Rattle.block_map.specs.Blocks.{AreBlocksBefore, AreBlocksFrom, block_nodes, block_records, block_trees}
 use Rattle.block_map.specs.Look as found
-use Rattle.block_map.specs.Look.{Found, look, resolved, with_mergeinfo}
-use Rattle.block_map.specs.LookThrough.{look_through}
-use Rattle.block_map.specs.Map.{most_nodes, nodes_for}
-use Rattle.block_map.specs.Trees.{AreMapTrees, end_of_trees, look_in_trees}
-use Rattle.block_map.specs.declared.trees.Trees.{Trees}
 use Rattle.block_map.proofs.LooksThrough.{look-front, look_from-within, look_through-append, look_through-none}
 use Rattle.block_map.proofs.RecordNodes.{resolved-with_mergeinfo}
 

@@ -1,13 +1,5 @@
 -- What the maps of children say of a name as maps are added.
-use Rattle.std.proofs.Common.{◌≡◌, ◌≢◌, ℕ, zero, suc, ◌+◌, ◌<◌, ◌≤◌, ◌%◌, ◌/◌, ◌==◌, Bool, true, false, List, [], ◌∷◌, ◌++◌, Option, Some, None, Result, Ok, Err, OnErr, OnOk, length, if◌then◌else◌, inl, inr, refl, sym, ap, subst, ◌∙◌, add-one, arith}
-use Rattle.std.proofs.lemmas.Bool.{cases_eq, eq-eqb, ne_eqb}
-use Rattle.std.proofs.lemmas.Option.{slice_get_within}
-use Rattle.svn_dump.proofs.Lists.{slice_get-push}
-use Rattle.block_map.specs.ChildMaps.{Extends, AreOrdered, HaveNodesBelow, IsOrderedAfter, HasOne, HasSides, HasTwo, SetsChild, child_in, found_within, leaf_of, child_map_at, sides_of, with_name}
-use Rattle.block_map.specs.declared.trie.node.NodeId.{NodeId}
-use Rattle.block_map.specs.declared.trie.child_map.ChildMap.{ChildMap}
-use Rattle.block_map.specs.declared.trie.child_map.ChildMap.TheVariants.{Leaf, Branch}
-use Rattle.block_map.specs.declared.trie.child_map.ChildMapId.{ChildMapId}
+use Rattle.block_map.proofs.Common.{◌≡◌, ◌≢◌, ℕ, zero, suc, ◌+◌, ◌<◌, ◌≤◌, ◌%◌, ◌/◌, ◌==◌, Bool, true, false, List, [], ◌∷◌, ◌++◌, Option, Some, None, Result, Ok, Err, OnErr, OnOk, length, if◌then◌else◌, inl, inr, refl, sym, ap, subst, ◌∙◌, add-one, arith, cases_eq, eq-eqb, ne_eqb, slice_get_within, slice_get-push, Extends, AreOrdered, HaveNodesBelow, IsOrderedAfter, HasOne, HasSides, HasTwo, SetsChild, child_in, found_within, leaf_of, child_map_at, sides_of, with_name, NodeId, ChildMap, Leaf, Branch, ChildMapId}
 use Rattle.block_map.proofs.GrownTries.{Extends-none, child_in-grown, slice_get-grown, slice_get-last}
 use Rattle.block_map.proofs.ChildMapSteps.{child_in-None, child_in-Leaf, child_in-Branch, found_within-empty}
 

@@ -1,11 +1,5 @@
 -- How many steps it takes to find a name in a map.
-use Rattle.std.proofs.Common.{◌≡◌, ℕ, zero, suc, ◌<◌, ◌≤◌, ◌%◌, ◌/◌, ◌==◌, Bool, true, false, List, Option, Some, None, if◌then◌else◌, refl, sym, ap, ◌∙◌, arith}
-use Rattle.std.specs.Prelude.{slice_get}
-use Rattle.block_map.specs.ChildMaps.{child_map_at, found_within, child_in, AreOrdered}
-use Rattle.block_map.specs.declared.trie.node.NodeId.{NodeId}
-use Rattle.block_map.specs.declared.trie.child_map.ChildMap.{ChildMap}
-use Rattle.block_map.specs.declared.trie.child_map.ChildMap.TheVariants.{Leaf, Branch}
-use Rattle.block_map.specs.declared.trie.child_map.ChildMapId.{ChildMapId}
+use Rattle.block_map.proofs.Common.{◌≡◌, ℕ, zero, suc, ◌<◌, ◌≤◌, ◌%◌, ◌/◌, ◌==◌, Bool, true, false, List, Option, Some, None, if◌then◌else◌, refl, sym, ap, ◌∙◌, arith, slice_get, child_map_at, found_within, child_in, AreOrdered, NodeId, ChildMap, Leaf, Branch, ChildMapId}
 
 -- what a map gives for a name, given what a smaller map gives for the bits that are left
 abbrev pub found_in_map : Option ChildMap → (ℕ → ℕ → Option NodeId) → ℕ → Option NodeId

@@ -1,13 +1,5 @@
 -- Nodes that stand at other locations than those at which they were made.
-use Rattle.std.proofs.Common.{◌≡◌, List, [], ◌∷◌, Option, None, Some, IfSome, unwrap_or, refl, ap, ◌∙◌, arith}
-use Rattle.std.specs.Option.{option_and_then}
-use Rattle.std.specs.Prelude.{slice_get}
-use Rattle.svn_path.specs.declared.names.NameId.{NameId}
-use Rattle.block_map.specs.Node.{untouched}
-use Rattle.block_map.specs.Trie.{At, IsCopiedNode, ExtendsTrie, IsNodeOf, IsSound, LookOfNumbers, TrieValue, child_at, child_of, found_at, found_below, own_found, base_look}
-use Rattle.block_map.specs.declared.trie.node.Node.{Node}
-use Rattle.block_map.specs.declared.trie.node.Base.{Base}
-use Rattle.block_map.specs.declared.trie.node.NodeId.{NodeId}
+use Rattle.block_map.proofs.Common.{◌≡◌, List, [], ◌∷◌, Option, None, Some, IfSome, unwrap_or, refl, ap, ◌∙◌, arith, option_and_then, slice_get, NameId, untouched, At, IsCopiedNode, ExtendsTrie, IsNodeOf, IsSound, LookOfNumbers, TrieValue, child_at, child_of, found_at, found_below, own_found, base_look, Node, Base, NodeId}
 use Rattle.block_map.proofs.GrownTries.{child_of-grown, found_below-grown, found_within-zero, IsNodeOf-child_at}
 
 -- a node without children has none at any name

@@ -1,26 +1,8 @@
 -- The first fault of a record is told by what stands at ticks.
-use Rattle.std.proofs.Common.{◌≡◌, ℕ, ◌+◌, ◌-◌, ◌<◌, ◌≤◌, Bool, true, false, inl, inr, if◌then◌else◌, List, [], ◌∷◌, ◌++◌, Option, None, Some, fold, flat_map, get_or, is_some, length, map, option_map, option_and_then, refl, sym, ap, subst, ◌∙◌, arith}
+use Rattle.block_map.proofs.Common.{◌≡◌, ℕ, ◌+◌, ◌-◌, ◌<◌, ◌≤◌, Bool, true, false, inl, inr, if◌then◌else◌, List, [], ◌∷◌, ◌++◌, Option, None, Some, fold, flat_map, get_or, is_some, length, map, option_map, refl, sym, ap, subst, ◌∙◌, arith, option_or, cases_lt, lt-ltb, le-ltb, get_or_append_left, get_or-append_right, get_or-map, length-map, get_or_from_slice_get, slice_get_within, slice_get-get_or, parent_of, same_name, NameId, IsSame, IsSame-same_name, DumpValue, IsDump, action_view, record_view, history_view, missing, exists, no_parent, no_source, is_dir, has_parent, fault_if_missing, fault_of_target, fault_of_source, fault_of, Action, delete, change, add, copy, History, Record, fault_of_next_record, fault_of_next_record_from, fault_within, state_from, tree_within, Tree, Entry, entry_at, is_there, tree_of, with_revision, trees_of, NodeRecord, fault_of-delete, fault_of-change, fault_of-add, fault_of-copy, length-with_revision, tree_of-revisions, action_at_tick, end_of, ends_of, Standings, is_dir_standing, has_parent_standing, missing_found, target_found, source_found, fault_found, state_in, standing_at}
+use Rattle.std.proofs.Common.{option_and_then}
 use Rattle.std.specs.List.{slice_get}
-use Rattle.std.specs.Option.{option_or}
-use Rattle.std.proofs.lemmas.Bool.{cases_lt, lt-ltb, le-ltb}
-use Rattle.std.proofs.lemmas.List.{get_or_append_left, get_or-append_right, get_or-map, length-append, length-map}
-use Rattle.std.proofs.lemmas.Option.{get_or_from_slice_get, slice_get_within, slice_get-get_or}
-use Rattle.svn_path.specs.Below.{parent_of}
-use Rattle.svn_path.specs.Path.{same_name}
-use Rattle.svn_path.specs.declared.names.NameId.{NameId}
-use Rattle.svn_path.proofs.Belows.{IsSame, IsSame-same_name}
-use Rattle.svn_dump.specs.Dump.{DumpValue, IsDump, action_view, record_view, history_view}
-use Rattle.svn_dump.specs.Fault.{missing, exists, no_parent, no_source, is_dir, has_parent, fault_if_missing, fault_of_target, fault_of_source, fault_of}
-use Rattle.svn_dump.specs.History.{Action, delete, change, add, copy, History, Record}
-use Rattle.svn_dump.specs.State.{fault_of_next_record, fault_of_next_record_from, fault_within, state_from, tree_within}
-use Rattle.svn_dump.specs.Tree.{Tree, Entry, entry_at, is_there, tree_of, with_revision, trees_of}
-use Rattle.svn_dump.specs.declared.record.NodeRecord.{NodeRecord}
-use Rattle.svn_dump.proofs.Faults.{fault_of-delete, fault_of-change, fault_of-add, fault_of-copy}
-use Rattle.svn_dump.proofs.Revisions.{length-with_revision, tree_of-revisions}
-use Rattle.block_map.specs.Ends.{action_at_tick, end_of, ends_of}
-use Rattle.block_map.specs.FaultFound.{Standings, is_dir_standing, has_parent_standing, missing_found, target_found, source_found, fault_found}
-use Rattle.block_map.specs.Map.{state_in}
-use Rattle.block_map.specs.Standing.{standing_at}
+use Rattle.std.proofs.lemmas.List.{length-append}
 use Rattle.block_map.proofs.RevisionEnds.{ends_of-at}
 use Rattle.block_map.proofs.RevisionStates.{standing_of_entry, standing_past, standing_revision, state_from-within, lengths-history_view, length-history_view}
 use Rattle.block_map.proofs.Sources.{IsFromBelow, AreFromBelow, AreFromBelow-history_view}

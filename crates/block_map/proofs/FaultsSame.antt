@@ -1,15 +1,6 @@
 -- The fault of a record by what stands at the tick before it and at earlier ones alone.
-use Rattle.std.proofs.Common.{◌≡◌, ℕ, ◌+◌, ◌≤◌, Bool, false, List, None, Some, is_some, if◌then◌else◌, get_or, ap, arith}
-use Rattle.std.specs.Option.{option_or}
-use Rattle.svn_path.specs.Below.{parent_of}
-use Rattle.svn_path.specs.declared.names.NameId.{NameId}
-use Rattle.svn_dump.specs.Dump.{action_view}
-use Rattle.svn_dump.specs.Fault.{missing, exists, no_parent, no_source}
-use Rattle.svn_dump.specs.declared.record.Act.{Act}
+use Rattle.block_map.proofs.Common.{◌≡◌, ℕ, ◌+◌, ◌≤◌, Bool, false, List, None, Some, is_some, if◌then◌else◌, get_or, ap, arith, option_or, parent_of, NameId, action_view, missing, exists, no_parent, no_source, Act, ValueId, HasSourceBefore, action_at_tick, Standings, fault_found, has_parent_standing, is_dir_standing, target_found}
 use Rattle.svn_dump.specs.declared.record.Act.TheVariants as act
-use Rattle.svn_dump.specs.declared.record.ValueId.{ValueId}
-use Rattle.block_map.specs.Ends.{HasSourceBefore, action_at_tick}
-use Rattle.block_map.specs.FaultFound.{Standings, fault_found, has_parent_standing, is_dir_standing, target_found}
 
 module _ (one other : Standings NameId ValueId) (tick : ℕ) (same : (earlier : ℕ) (path : List NameId) → earlier ≤ tick → one earlier path ≡ other earlier path) where
   target-same : (replace : Bool) (path : List NameId) → target_found one tick replace path ≡ target_found other tick replace path

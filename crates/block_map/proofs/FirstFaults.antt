@@ -1,16 +1,6 @@
 -- The first faulty record of a history is told by the fault of each record in the tree before it.
-use Rattle.std.proofs.Common.{◌≡◌, ℕ, zero, suc, ◌+◌, ◌-◌, ◌<◌, Bool, inl, inr, List, [], ◌∷◌, Option, None, Some, fold, length, take, sym, ap, ◌∙◌, arith}
+use Rattle.block_map.proofs.Common.{◌≡◌, ℕ, zero, suc, ◌+◌, ◌-◌, ◌<◌, Bool, inl, inr, List, [], ◌∷◌, Option, None, Some, fold, length, take, sym, ap, ◌∙◌, arith, option_and_then, cases_lt, none-some, same_name, DumpValue, IsDump, history_view, Fault, fault_of, first_fault_in, first_fault_from, first_fault, History, Record, fault_of_next_record, fault_of_next_record_from, Tree, start_tree, tree_after_record, with_revision, record_count, record_count-cons, first_fault_in-nil, first_fault_in_fine, first_fault_in_faulty, first_fault_from-nil, first_fault_from_fine, first_fault_from_faulty}
 use Rattle.std.specs.List.{slice_get}
-use Rattle.std.specs.Option.{option_and_then}
-use Rattle.std.proofs.lemmas.Bool.{cases_lt}
-use Rattle.std.proofs.lemmas.Option.{none-some}
-use Rattle.svn_path.specs.Path.{same_name}
-use Rattle.svn_dump.specs.Dump.{DumpValue, IsDump, history_view}
-use Rattle.svn_dump.specs.Fault.{Fault, fault_of, first_fault_in, first_fault_from, first_fault}
-use Rattle.svn_dump.specs.History.{History, Record}
-use Rattle.svn_dump.specs.State.{fault_of_next_record, fault_of_next_record_from}
-use Rattle.svn_dump.specs.Tree.{Tree, start_tree, tree_after_record, with_revision}
-use Rattle.svn_dump.proofs.Faults.{record_count, record_count-cons, first_fault_in-nil, first_fault_in_fine, first_fault_in_faulty, first_fault_from-nil, first_fault_from_fine, first_fault_from_faulty}
 use Rattle.block_map.proofs.FaultsFound.{fault_of_next_record_from-within, fault_of_next_record_from-later}
 use Rattle.block_map.proofs.Standings.{record_count-history_view}
 

@@ -1,11 +1,5 @@
 -- At which ticks a look finds what stood somewhere.
-use Rattle.std.proofs.Common.{ℕ, zero, suc, ◌+◌, ◌-◌, Bool, List, [], ◌∷◌, ◌++◌, Option, None, Some, All, fold, get_or, length, inl, inr, arith}
-use Rattle.std.proofs.lemmas.Bool.{cases_lt, le-leb, lt-leb}
-use Rattle.std.proofs.lemmas.List.Elements.{All-head, All-nil, All-push, All-tail}
-use Rattle.svn_path.specs.Below.{below}
-use Rattle.svn_dump.specs.History.{Setting, keep, put, Action, delete, change, add, copy, Record}
-use Rattle.block_map.specs.LookThrough.{IsFoundUpTo}
-use Rattle.block_map.specs.Look.{Found, at, at_with, is, absent, IsFoundAtOrBefore, Look, found_after_action, resolved, look, look_after, look_at, looks_of, with_setting, with_look}
+use Rattle.block_map.proofs.Common.{ℕ, zero, suc, ◌+◌, ◌-◌, Bool, List, [], ◌∷◌, ◌++◌, Option, None, Some, All, fold, get_or, length, inl, inr, arith, cases_lt, le-leb, lt-leb, All-head, All-nil, All-push, All-tail, below, Setting, keep, put, Action, delete, change, add, copy, Record, IsFoundUpTo, Found, at, at_with, is, absent, IsFoundAtOrBefore, Look, found_after_action, resolved, look, look_after, look_at, looks_of, with_setting, with_look}
 
 -- what stood somewhere is found at a tick that is no later, at each path
 abbrev AreUpTo : {C M : Type 0} → ℕ → Look C M → Type 0

@@ -1,26 +1,8 @@
 -- What a dump that grows keeps: the ends of its revisions but the last, the ticks of its records, and what is true of each
 -- of them in the tree before it.
-use Rattle.std.proofs.Common.{◌≡◌, ℕ, zero, suc, ◌+◌, ◌-◌, ◌<◌, ◌≤◌, Bool, inl, inr, List, [], ◌∷◌, ◌++◌, None, Option, Some, length, get_or, map, take, drop, fold, replicate, sum, refl, sym, ap, ap₂, ◌∙◌, arith, length-append, length-drop, take_all}
-use Rattle.std.specs.Option.{option_and_then}
-use Rattle.std.proofs.lemmas.Bool.{cases_lt}
-use Rattle.std.proofs.lemmas.List.{drop-append-le, get_or_append_left, get_or_default, get_or-append_right, get_or-replicate, length-map, length-replicate, length-take-le, map-append, take-append-le}
-use Rattle.std.proofs.lemmas.Option.{none-some}
-use Rattle.std.proofs.Math.Seq.{take-append-add}
-use Rattle.svn_path.specs.Path.{same_name}
-use Rattle.svn_path.specs.declared.names.NameId.{NameId}
-use Rattle.svn_dump.specs.Dump.{DumpValue, IsDump, IsActOf, IsRecordOf, history_view, record_view, records_by_revision, revisions_from, setting_view}
-use Rattle.svn_dump.specs.Fault.{Fault, fault_of, first_fault}
+use Rattle.block_map.proofs.Common.{◌≡◌, ℕ, zero, suc, ◌+◌, ◌-◌, ◌<◌, ◌≤◌, Bool, inl, inr, List, [], ◌∷◌, ◌++◌, None, Option, Some, length, get_or, map, take, drop, fold, replicate, sum, refl, sym, ap, ap₂, ◌∙◌, arith, length-append, length-drop, take_all, option_and_then, cases_lt, drop-append-le, get_or_append_left, get_or_default, get_or-append_right, get_or-replicate, length-map, length-replicate, length-take-le, map-append, take-append-le, none-some, take-append-add, same_name, NameId, DumpValue, IsDump, IsActOf, IsRecordOf, history_view, record_view, records_by_revision, revisions_from, setting_view, Fault, fault_of, first_fault, History, Record, copy, fault_of_next_record, fault_of_next_record_from, fault_within, Tree, start_tree, tree_after_record, with_revision, Act, NodeRecord, map-same, slice_get-front, total, ends_of, record_at_tick, IsMapOf, IsMapOfFirstRecords, MapValue, records_at_ticks}
 use Rattle.svn_dump.specs.Growth.{CountsGrow, GrowsTo}
-use Rattle.svn_dump.specs.History.{History, Record, copy}
-use Rattle.svn_dump.specs.State.{fault_of_next_record, fault_of_next_record_from, fault_within}
-use Rattle.svn_dump.specs.Tree.{Tree, start_tree, tree_after_record, with_revision}
-use Rattle.svn_dump.specs.declared.record.Act.{Act}
 use Rattle.svn_dump.specs.declared.record.Act.TheVariants as act
-use Rattle.svn_dump.specs.declared.record.NodeRecord.{NodeRecord}
-use Rattle.svn_dump.proofs.Lists.{map-same, slice_get-front}
-use Rattle.svn_dump.proofs.Grouped.{total}
-use Rattle.block_map.specs.Ends.{ends_of, record_at_tick}
-use Rattle.block_map.specs.Map.{IsMapOf, IsMapOfFirstRecords, MapValue, records_at_ticks}
 use Rattle.block_map.proofs.FaultsFound.{fault_of_next_record_from-within, fault_of_next_record_from-later}
 use Rattle.block_map.proofs.FirstFaults.{first_fault-least}
 use Rattle.block_map.proofs.MapsOfDumps.{IsMapOfFirstRecords-built}

@@ -1,20 +1,6 @@
 -- What is found below the nodes of a trie stays as nodes, maps and locations are added.
-use Rattle.std.proofs.Common.{◌≡◌, ℕ, zero, suc, ◌<◌, ◌≤◌, ◌%◌, ◌/◌, ◌==◌, Bool, true, false, List, [], ◌∷◌, ◌++◌, Option, None, Some, IfSome, length, if◌then◌else◌, refl, sym, ap, subst, ◌∙◌, arith, length-append, append-nil, append_assoc}
-use Rattle.std.specs.Option.{option_and_then}
-use Rattle.std.specs.Prelude.{slice_get}
-use Rattle.std.proofs.lemmas.List.{get_or_at}
-use Rattle.std.proofs.lemmas.Option.{same_Some, slice_get-get_or}
-use Rattle.svn_path.specs.declared.names.NameId.{NameId}
-use Rattle.svn_dump.proofs.Lists.{slice_get-front}
-use Rattle.block_map.specs.ChildMaps.{Extends, AreOrdered, HaveNodesBelow, child_in, found_within, child_map_at}
-use Rattle.block_map.specs.Trie.{At, HasLocation, ExtendsTrie, IsNodeOf, IsSound, LookOfNumbers, TrieValue, at_path, child_at, child_of, found_at, found_below, own_found, base_look, as_at}
-use Rattle.block_map.specs.declared.trie.node.Node.{Node}
-use Rattle.block_map.specs.declared.trie.node.Base.{Base}
+use Rattle.block_map.proofs.Common.{◌≡◌, ℕ, zero, suc, ◌<◌, ◌≤◌, ◌%◌, ◌/◌, ◌==◌, Bool, true, false, List, [], ◌∷◌, ◌++◌, Option, None, Some, IfSome, length, if◌then◌else◌, refl, sym, ap, subst, ◌∙◌, arith, length-append, append-nil, append_assoc, option_and_then, slice_get, get_or_at, same_Some, slice_get-get_or, NameId, slice_get-front, Extends, AreOrdered, HaveNodesBelow, child_in, found_within, child_map_at, At, HasLocation, ExtendsTrie, IsNodeOf, IsSound, LookOfNumbers, TrieValue, at_path, child_at, child_of, found_at, found_below, own_found, base_look, as_at, Node, Base, NodeId, ChildMap, Leaf, Branch, ChildMapId}
 use Rattle.block_map.specs.declared.trie.node.Base.TheVariants as base
-use Rattle.block_map.specs.declared.trie.node.NodeId.{NodeId}
-use Rattle.block_map.specs.declared.trie.child_map.ChildMap.{ChildMap}
-use Rattle.block_map.specs.declared.trie.child_map.ChildMap.TheVariants.{Leaf, Branch}
-use Rattle.block_map.specs.declared.trie.child_map.ChildMapId.{ChildMapId}
 use Rattle.block_map.proofs.ChildMapSteps.{found_in_map, found_within-suc, found_within-empty}
 
 -- ---- lists

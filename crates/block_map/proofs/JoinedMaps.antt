@@ -1,10 +1,7 @@
 -- Maps of neighbouring parts of a history, joined.
-use Rattle.std.proofs.Common.{◌≡◌, ◌+◌, [], ◌∷◌, ◌++◌, length, ap, ◌∙◌, arith, length-append}
-use Rattle.svn_path.specs.Path.{same_name}
+use Rattle.block_map.proofs.Common.{◌≡◌, ◌+◌, [], ◌∷◌, ◌++◌, length, ap, ◌∙◌, arith, length-append, same_name, look_through, MapValue, hi_of}
 use Rattle.par_scan.specs.Chain.{IsJoined, act_all}
 use Rattle.block_map.specs.Joining.{MapPoint, found, count, act_on_point, tick_before}
-use Rattle.block_map.specs.LookThrough.{look_through}
-use Rattle.block_map.specs.Map.{MapValue, hi_of}
 use Rattle.block_map.proofs.LooksThrough.{look_through-append}
 
 module _ (one two joined : MapValue) (meet : hi_of one ≡ two.lo) (lo : joined.lo ≡ one.lo) (records : joined.records ≡ one.records ++ two.records) (nodes : joined.nodes ≡ one.nodes + two.nodes) where

@@ -1,3 +1,4 @@
+mod Common
 pub mod BlocksOfMaps
 pub mod CopiedNodes
 pub mod FaultsFound

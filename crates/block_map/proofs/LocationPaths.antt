@@ -1,16 +1,6 @@
 -- The paths of locations that are kept without the path of the one above them.
-use Rattle.std.proofs.Common.{◌≡◌, ℕ, zero, suc, ◌+◌, ◌<◌, inl, inr, List, [], ◌∷◌, ◌++◌, reverse, Option, Some, None, IfSome, false, is_some, fold, get_or, length, option_map, append_assoc, refl, sym, ap, subst, ◌∙◌, arith}
-use Rattle.std.specs.Prelude.{slice_get}
-use Rattle.std.proofs.lemmas.Bool.{cases_lt}
-use Rattle.std.proofs.lemmas.List.{length_push, reverse-append, reverse-reverse}
-use Rattle.std.proofs.lemmas.List.Sums.{fold_push}
-use Rattle.std.proofs.lemmas.Option.{same_Some, slice_get-get_or, slice_get_within}
-use Rattle.svn_path.specs.declared.names.NameId.{NameId}
-use Rattle.svn_dump.proofs.Lists.{slice_get-front}
-use Rattle.block_map.specs.Locations.{AddsBelow, AreAfterThoseAbove, IsLocationBelow, location_below, locations_of, path_above, path_at, path_of, whole_location, with_stored}
-use Rattle.block_map.specs.ChildMaps.{Extends}
+use Rattle.block_map.proofs.Common.{◌≡◌, ℕ, zero, suc, ◌+◌, ◌<◌, inl, inr, List, [], ◌∷◌, ◌++◌, reverse, Option, Some, None, IfSome, false, is_some, fold, get_or, length, option_map, append_assoc, refl, sym, ap, subst, ◌∙◌, arith, slice_get, cases_lt, length_push, reverse-append, reverse-reverse, fold_push, same_Some, slice_get-get_or, slice_get_within, NameId, slice_get-front, AddsBelow, AreAfterThoseAbove, IsLocationBelow, location_below, locations_of, path_above, path_at, path_of, whole_location, with_stored, Extends, LocationId}
 use Rattle.block_map.specs.declared.trie.location.Location.{Location}
-use Rattle.block_map.specs.declared.trie.location.LocationId.{LocationId}
 use Rattle.block_map.specs.declared.trie.location.StoredLocation.{StoredLocation}
 use Rattle.block_map.proofs.GrownTries.{Extends-again, Extends-none, slice_get-grown, slice_get-last}
 

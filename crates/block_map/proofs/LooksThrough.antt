@@ -1,12 +1,6 @@
 -- What the records of two neighbouring parts of a history say is what those of the later part say, by those of the
 -- earlier part.
-use Rattle.std.proofs.Common.{◌≡◌, ◌⊎◌, ℕ, zero, suc, ◌+◌, ◌-◌, ◌<◌, ◌≤◌, Bool, List, [], ◌∷◌, ◌++◌, Option, None, Some, get_or, length, inl, inr, refl, sym, ap, ◌∙◌, arith, append_assoc, append-nil, length-append}
-use Rattle.std.proofs.lemmas.Bool.{cases_lt, le-leb, lt-leb}
-use Rattle.std.proofs.lemmas.List.{length_push}
-use Rattle.svn_path.specs.Below.{below}
-use Rattle.svn_dump.specs.History.{Setting, keep, put, Action, delete, change, add, copy, Record}
-use Rattle.block_map.specs.Look.{Found, at, at_with, is, absent, Look, found_after_action, look, look_after, look_at, looks_of, with_setting, with_mergeinfo}
-use Rattle.block_map.specs.LookThrough.{look_from, look_through}
+use Rattle.block_map.proofs.Common.{◌≡◌, ◌⊎◌, ℕ, zero, suc, ◌+◌, ◌-◌, ◌<◌, ◌≤◌, Bool, List, [], ◌∷◌, ◌++◌, Option, None, Some, get_or, length, inl, inr, refl, sym, ap, ◌∙◌, arith, append_assoc, append-nil, length-append, cases_lt, le-leb, lt-leb, length_push, below, Setting, keep, put, Action, delete, change, add, copy, Record, Found, at, at_with, is, absent, Look, found_after_action, look, look_after, look_at, looks_of, with_setting, with_mergeinfo, look_from, look_through}
 use Rattle.block_map.proofs.Standings.{look_at_first}
 use Rattle.block_map.proofs.TreesLooks.{length-looks_of, look_push-before, look_push-last}
 

@@ -1,19 +1,6 @@
 -- What a map of records of a dump shows.
-use Rattle.std.proofs.Common.{◌≡◌, ℕ, ◌+◌, ◌≤◌, List, [], ◌++◌, length, append_assoc, append-nil, refl, ap, sym, ◌∙◌, arith}
-use Rattle.std.proofs.lemmas.Grind.{common_steps}
-use Rattle.std.proofs.lemmas.List.{length-map, map-append}
-use Rattle.svn_path.specs.Path.{same_name}
-use Rattle.svn_path.specs.declared.names.NameId.{NameId}
-use Rattle.svn_dump.specs.Dump.{DumpValue, record_view}
-use Rattle.svn_dump.specs.History.{Record}
-use Rattle.svn_dump.specs.declared.record.NodeRecord.{NodeRecord}
-use Rattle.svn_dump.specs.declared.record.ValueId.{ValueId}
-use Rattle.block_map.specs.Ends.{ends_of, record_at_tick}
+use Rattle.block_map.proofs.Common.{◌≡◌, ℕ, ◌+◌, ◌≤◌, List, [], ◌++◌, length, append_assoc, append-nil, refl, ap, sym, ◌∙◌, arith, common_steps, length-map, map-append, same_name, NameId, DumpValue, record_view, Record, NodeRecord, ValueId, ends_of, record_at_tick, Found, resolved, look, looks_of, with_mergeinfo, IsFoundUpTo, look_from, look_through, IsEndIn, IsMapOf, IsMapOfFirstRecords, MapValue, hi_of, look_in, records_at_ticks, revision_in, standing_at, standing_of}
 use Rattle.block_map.specs.Look as found
-use Rattle.block_map.specs.Look.{Found, resolved, look, looks_of, with_mergeinfo}
-use Rattle.block_map.specs.LookThrough.{IsFoundUpTo, look_from, look_through}
-use Rattle.block_map.specs.Map.{IsEndIn, IsMapOf, IsMapOfFirstRecords, MapValue, hi_of, look_in, records_at_ticks, revision_in}
-use Rattle.block_map.specs.Standing.{standing_at, standing_of}
 use Rattle.block_map.proofs.FoundFrom.{up_to-look}
 use Rattle.block_map.proofs.LooksThrough.{look-append, look-front, look_from-within}
 use Rattle.block_map.proofs.RecordNodes.{resolved-with_mergeinfo}

@@ -1,14 +1,5 @@
 -- The nearest mergeinfo among the first components of a path.
-use Rattle.std.proofs.Common.{◌≡◌, ℕ, ◌+◌, ◌≤◌, ◌⊎◌, List, [], ◌∷◌, ◌++◌, Option, None, Some, option_map, length, take, inl, inr, refl, sym, ap, ◌∙◌, arith, append-nil, append_assoc, length-append}
-use Rattle.std.specs.Option.{option_and_then, option_or}
-use Rattle.std.proofs.Math.Seq.{take-append_seam}
-use Rattle.std.proofs.lemmas.Bool.{cases_lt}
-use Rattle.std.proofs.lemmas.Option.{same_Some}
-use Rattle.svn_path.specs.declared.names.NameId.{NameId}
-use Rattle.svn_dump.specs.declared.record.ValueId.{ValueId}
-use Rattle.block_map.specs.Map.{HasNoneFrom, IsNearestOrNone, nearest_view}
-use Rattle.block_map.specs.Standing.{Standing, entry_view, mergeinfo_of, standing_of}
-use Rattle.block_map.specs.Trie.{LookOfNumbers}
+use Rattle.block_map.proofs.Common.{◌≡◌, ℕ, ◌+◌, ◌≤◌, ◌⊎◌, List, [], ◌∷◌, ◌++◌, Option, None, Some, option_map, length, take, inl, inr, refl, sym, ap, ◌∙◌, arith, append-nil, append_assoc, length-append, option_and_then, option_or, take-append_seam, cases_lt, same_Some, NameId, ValueId, HasNoneFrom, IsNearestOrNone, nearest_view, Standing, entry_view, mergeinfo_of, standing_of, LookOfNumbers}
 use Rattle.block_map.specs.declared.entry.Entry.{Entry}
 use Rattle.block_map.specs.declared.entry.Nearest.{Nearest}
 

@@ -1,20 +1,6 @@
 -- What is found below a node where another one was put at a path.
-use Rattle.std.proofs.Common.{◌≡◌, ◌==◌, true, false, List, [], ◌∷◌, ◌++◌, Option, None, Some, IfSome, length, if◌then◌else◌, inl, inr, refl, sym, ap, subst, ◌∙◌}
-use Rattle.std.specs.Option.{option_and_then, unwrap_or}
-use Rattle.std.specs.Prelude.{slice_get}
-use Rattle.std.proofs.lemmas.Bool.{cases_Bool}
-use Rattle.svn_dump.specs.declared.record.ValueId.{ValueId}
-use Rattle.svn_path.specs.Below.{below}
-use Rattle.svn_path.specs.Path.{same_name}
-use Rattle.svn_path.specs.declared.names.NameId.{NameId}
-use Rattle.svn_path.proofs.Belows.{IsSame-same_name}
-use Rattle.block_map.specs.Look.{Found}
-use Rattle.block_map.specs.Node.{untouched}
-use Rattle.block_map.specs.ChildMaps.{Extends, SetsChild, child_in}
-use Rattle.block_map.specs.Trie.{At, ExtendsTrie, IsNodeOf, IsSound, LookOfNumbers, PutsNode, TrieValue, at_path, child_at, child_of, found_below, own_found, base_look}
-use Rattle.block_map.specs.declared.trie.node.Node.{Node}
-use Rattle.block_map.specs.declared.trie.node.NodeId.{NodeId}
-use Rattle.block_map.specs.declared.trie.child_map.ChildMapId.{ChildMapId}
+use Rattle.block_map.proofs.Common.{◌≡◌, ◌==◌, true, false, List, [], ◌∷◌, ◌++◌, Option, None, Some, IfSome, length, if◌then◌else◌, inl, inr, refl, sym, ap, subst, ◌∙◌, option_and_then, slice_get, cases_Bool, ValueId, below, same_name, NameId, IsSame-same_name, Found, untouched, Extends, SetsChild, child_in, At, ExtendsTrie, IsNodeOf, IsSound, LookOfNumbers, PutsNode, TrieValue, at_path, child_at, child_of, found_below, own_found, base_look, Node, NodeId, ChildMapId}
+use Rattle.std.specs.Option.{unwrap_or}
 use Rattle.block_map.proofs.CopiedNodes.{IsNodeOf-untouched, child_at-untouched}
 use Rattle.block_map.proofs.GrownTries.{Extends-none, child_in-grown, found_below-grown, base_look-grown, slice_get-last}
 use Rattle.block_map.proofs.ChildMapLookups.{eqb-turned}

@@ -1,18 +1,7 @@
 -- Positions of paths below a root.
-use Rattle.std.proofs.Common.{◌≡◌, ℕ, ◌+◌, ◌<◌, List, [], ◌∷◌, ◌++◌, Option, None, Some, IfSome, drop, get_or, length, option_map, take, append_assoc, refl, sym, ap, subst, ◌∙◌}
-use Rattle.std.specs.Prelude.{slice_get}
-use Rattle.std.proofs.Math.Seq.{drop-length}
-use Rattle.std.proofs.lemmas.List.{take_more}
-use Rattle.std.proofs.lemmas.List.Sums.{fold-append}
-use Rattle.svn_path.specs.declared.names.NameId.{NameId}
-use Rattle.block_map.specs.Locations.{AddsBelow, IsLocationBelow, location_below}
-use Rattle.block_map.specs.Look.{at}
-use Rattle.block_map.specs.Trie.{At, IsLocationOfPath, IsPathBaseOf, IsNodeOf, IsPositionOf, IsBaseOfPath, TrieValue, base_of_path, path_base_view, as_at, at_path, at_root, child_at, base_look, position_view}
-use Rattle.block_map.specs.declared.trie.node.Node.{Node}
-use Rattle.block_map.specs.declared.trie.node.Base.{Base}
+use Rattle.block_map.proofs.Common.{◌≡◌, ℕ, ◌+◌, ◌<◌, List, [], ◌∷◌, ◌++◌, Option, None, Some, IfSome, drop, get_or, length, option_map, take, append_assoc, refl, sym, ap, subst, ◌∙◌, slice_get, drop-length, take_more, fold-append, NameId, AddsBelow, IsLocationBelow, location_below, at, At, IsLocationOfPath, IsPathBaseOf, IsNodeOf, IsPositionOf, IsBaseOfPath, TrieValue, base_of_path, path_base_view, as_at, at_path, at_root, child_at, base_look, position_view, Node, Base, LocationId}
 use Rattle.block_map.specs.declared.trie.node.Base.TheVariants as base
 use Rattle.block_map.specs.declared.trie.location.Location.{Location}
-use Rattle.block_map.specs.declared.trie.location.LocationId.{LocationId}
 use Rattle.block_map.specs.declared.trie.position.PathBase.{PathBase}
 use Rattle.block_map.specs.declared.trie.position.PathBase.TheVariants as path_base
 use Rattle.block_map.specs.declared.trie.position.Position.{Position}

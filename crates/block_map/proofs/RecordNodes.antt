@@ -1,21 +1,9 @@
 -- The nodes that records put show what the records leave at their paths and below them.
-use Rattle.std.proofs.Common.{◌≡◌, ℕ, zero, suc, Bool, List, [], ◌∷◌, ◌++◌, Option, None, Some, unwrap_or, refl, sym, ap, ◌∙◌, append-nil}
-use Rattle.std.proofs.lemmas.List.Sums.{fold-append}
-use Rattle.svn_path.specs.Path.{same_name}
-use Rattle.svn_path.specs.declared.names.NameId.{NameId}
-use Rattle.svn_dump.specs.History.{Setting, delete, change, add, copy, keep, put}
-use Rattle.svn_dump.specs.Tree.{mergeinfo_after}
+use Rattle.block_map.proofs.Common.{◌≡◌, ℕ, zero, suc, Bool, List, [], ◌∷◌, ◌++◌, Option, None, Some, unwrap_or, refl, sym, ap, ◌∙◌, append-nil, fold-append, same_name, NameId, Setting, delete, change, add, copy, keep, put, mergeinfo_after, ValueId, ShowsAction, ShowsPath, ShowsTick, end_of_trees, look_in_trees, Found, resolved, look, with_setting, with_mergeinfo, absent_node, own_with_mergeinfo, node_of_kind, node_with_setting, node_with_mergeinfo, untouched, At, IsNodeOf, LookOfNumbers, TrieValue, at_path, at_root, child_at, found_at, found_below, own_found, Trees, Node}
 use Rattle.svn_dump.specs.declared.record.Kind.{Kind}
-use Rattle.svn_dump.specs.declared.record.ValueId.{ValueId}
-use Rattle.block_map.specs.Trees.{ShowsAction, ShowsPath, ShowsTick, end_of_trees, look_in_trees}
 use Rattle.block_map.specs.Look as found
-use Rattle.block_map.specs.Look.{Found, resolved, look, with_setting, with_mergeinfo}
-use Rattle.block_map.specs.Node.{absent_node, own_with_mergeinfo, node_of_kind, node_with_setting, node_with_mergeinfo, untouched}
-use Rattle.block_map.specs.Trie.{At, IsNodeOf, LookOfNumbers, TrieValue, at_path, at_root, child_at, found_at, found_below, own_found}
-use Rattle.block_map.specs.declared.trees.Trees.{Trees}
 use Rattle.block_map.specs.declared.trie.node.OwnEntry.{OwnEntry}
 use Rattle.block_map.specs.declared.trie.node.OwnEntry.TheVariants as own
-use Rattle.block_map.specs.declared.trie.node.Node.{Node}
 use Rattle.block_map.proofs.TreesNodes.{found_below-childless}
 use Rattle.block_map.proofs.CopiedNodes.{child_at-untouched, found_at-untouched}
 

@@ -1,5 +1,6 @@
 -- What holds of results.
-use Rattle.std.specs.Prelude.{Result, Ok, Err, IfOk, OnOk}
+use Rattle.block_map.proofs.Common.{IfOk}
+use Rattle.std.specs.Prelude.{Result, Ok, Err, OnOk}
 
 -- what holds of a value for two reasons
 pub IfOk-both : {X E : Type 0} (r : Result X E) (P Q R : X → Type 0) → ((x : X) → P x → Q x → R x) → IfOk r P → IfOk r Q → IfOk r R

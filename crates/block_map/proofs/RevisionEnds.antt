@@ -1,9 +1,6 @@
 -- The ends of revisions.
-use Rattle.std.proofs.Common.{◌≡◌, ℕ, ◌<◌, List, length, get_or, ◌∙◌, arith}
-use Rattle.std.proofs.lemmas.List.{length-map}
+use Rattle.block_map.proofs.Common.{◌≡◌, ℕ, ◌<◌, List, length, get_or, ◌∙◌, arith, length-map, range_with_len, end_of, ends_of}
 use Rattle.std.proofs.lemmas.List.FromFn.{get_or-map-range_with_len, length-range_with_len}
-use Rattle.std.specs.List.{range_with_len}
-use Rattle.block_map.specs.Ends.{end_of, ends_of}
 
 pub ends_of-at : (counts : List ℕ) (rev : ℕ) → rev < length counts → get_or (ends_of counts) rev 0 ≡ end_of counts rev
 ends_of-at counts rev within = get_or-map-range_with_len (end_of counts) 0 (length counts) rev rev 0 within (omega arith)

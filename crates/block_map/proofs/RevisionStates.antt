@@ -1,22 +1,7 @@
 -- What stands in the tree after the records of a revision stands in the tree of the revision.
-use Rattle.std.proofs.Common.{◌≡◌, ℕ, zero, suc, ◌+◌, ◌-◌, ◌<◌, ◌≤◌, Bool, inl, inr, List, [], ◌∷◌, Option, None, Some, fold, length, map, drop, option_map, refl, sym, ap, ap₂, ◌∙◌, arith, length-drop, take_all}
-use Rattle.std.proofs.lemmas.Bool.{cases_order, le-leb, lt-leb}
-use Rattle.std.proofs.lemmas.List.{length-map, length-take-le}
-use Rattle.std.proofs.lemmas.List.Sums.{sum_by-take-le}
-use Rattle.svn_path.specs.Path.{same_name}
-use Rattle.svn_path.specs.declared.names.NameId.{NameId}
-use Rattle.svn_path.proofs.Belows.{IsSame, IsSame-same_name}
-use Rattle.svn_dump.specs.Dump.{DumpValue, IsDump, history_view, record_view, records_by_revision}
-use Rattle.svn_dump.specs.History.{History, Record}
-use Rattle.svn_dump.specs.State.{state, state_from, tree_within}
-use Rattle.svn_dump.specs.Tree.{Tree, Entry, entry_at, tree_of, tree_from_revision, start_tree, end_tree, with_revision, trees_of}
-use Rattle.svn_dump.proofs.Grouped.{total, total-sum}
+use Rattle.block_map.proofs.Common.{◌≡◌, ℕ, zero, suc, ◌+◌, ◌-◌, ◌<◌, ◌≤◌, Bool, inl, inr, List, [], ◌∷◌, Option, None, Some, fold, length, map, drop, option_map, refl, sym, ap, ap₂, ◌∙◌, arith, length-drop, take_all, cases_order, le-leb, lt-leb, length-map, length-take-le, sum_by-take-le, same_name, NameId, IsSame, IsSame-same_name, DumpValue, IsDump, history_view, record_view, records_by_revision, History, Record, state, state_from, tree_within, Tree, Entry, entry_at, tree_of, tree_from_revision, start_tree, end_tree, with_revision, trees_of, total, total-sum, tree_of-revisions, tree_of_push, length-with_revision, opening_next, end_of, IsEndIn, state_in, revision_in, Standing, standing_at}
 use Rattle.svn_dump.proofs.Histories.{total-revisions}
-use Rattle.svn_dump.proofs.Revisions.{tree_of-revisions, tree_of_push, length-with_revision, opening_next}
 use Rattle.svn_dump.proofs.Trees.{entry_from, entry_at-tree_from_revision}
-use Rattle.block_map.specs.Ends.{end_of}
-use Rattle.block_map.specs.Map.{IsEndIn, state_in, revision_in}
-use Rattle.block_map.specs.Standing.{Standing, standing_at}
 use Rattle.block_map.proofs.Sources.{end_of-cons, end_of-zero}
 
 -- the kind and the mergeinfo of an entry

@@ -1,16 +1,6 @@
 -- The source of each copy stands before the copy.
-use Rattle.std.proofs.Common.{◌≡◌, ℕ, zero, suc, ◌+◌, ◌-◌, ◌<◌, ◌≤◌, inl, inr, All, List, [], ◌∷◌, length, get_or, map, take, drop, replicate, sum, sym, ap, subst, ◌∙◌, arith, length-append}
-use Rattle.std.proofs.lemmas.Bool.{cases_lt}
-use Rattle.std.proofs.lemmas.List.{get_or_append_left, get_or-append_right, get_or-replicate, get_or-map, get_or-take, length-map, length-replicate, length-take, take-map, drop-map, drop_at}
-use Rattle.std.proofs.lemmas.List.Elements.{All-map, All-drop, All-weaker}
-use Rattle.std.proofs.lemmas.List.Sums.{sum_by-cons}
-use Rattle.std.proofs.lemmas.Option.{get_or_from_slice_get, slice_get_within}
-use Rattle.svn_dump.specs.Dump.{DumpValue, IsDump, IsActOf, IsRecordOf, action_view, record_view, history_view, records_by_revision, revisions_from}
-use Rattle.svn_dump.specs.History.{Action, delete, change, add, copy, History}
-use Rattle.svn_dump.specs.declared.record.Act.{Act}
+use Rattle.block_map.proofs.Common.{◌≡◌, ℕ, zero, suc, ◌+◌, ◌-◌, ◌<◌, ◌≤◌, inl, inr, All, List, [], ◌∷◌, length, get_or, map, take, drop, replicate, sum, sym, ap, subst, ◌∙◌, arith, length-append, cases_lt, get_or_append_left, get_or-append_right, get_or-replicate, get_or-map, get_or-take, length-map, length-replicate, length-take, take-map, drop-map, drop_at, All-map, All-drop, All-weaker, sum_by-cons, get_or_from_slice_get, slice_get_within, DumpValue, IsDump, IsActOf, IsRecordOf, action_view, record_view, history_view, records_by_revision, revisions_from, Action, delete, change, add, copy, History, Act, NodeRecord, end_of, ends_of, HasSourceBefore, HaveSources}
 use Rattle.svn_dump.specs.declared.record.Act.TheVariants as act
-use Rattle.svn_dump.specs.declared.record.NodeRecord.{NodeRecord}
-use Rattle.block_map.specs.Ends.{end_of, ends_of, HasSourceBefore, HaveSources}
 use Rattle.block_map.proofs.RevisionEnds.{ends_of-at, length-ends_of}
 
 -- one revision more at the front is so many records more

@@ -1,27 +1,7 @@
 -- What the records of a history say of a path at a tick is what stands there after so many records.
-use Rattle.std.proofs.Common.{◌≡◌, ℕ, zero, suc, ◌+◌, ◌-◌, ◌<◌, ◌≤◌, Bool, inl, inr, List, [], ◌∷◌, ◌++◌, All, Option, None, Some, fold, flat_map, get_or, length, map, take, option_map, refl, sym, ap, subst, ◌∙◌, append-nil, arith}
-use Rattle.std.specs.Option.{option_map_or}
-use Rattle.std.proofs.lemmas.Bool.{cases_order, cases_lt, le-leb, lt-leb}
-use Rattle.std.proofs.lemmas.List.{get_or_append_left, get_or_at, length-map, length_push, map-append}
-use Rattle.std.proofs.lemmas.List.Elements.{All-head, All-tail}
-use Rattle.std.proofs.lemmas.List.Sums.{fold-append}
+use Rattle.block_map.proofs.Common.{◌≡◌, ℕ, zero, suc, ◌+◌, ◌-◌, ◌<◌, ◌≤◌, Bool, inl, inr, List, [], ◌∷◌, ◌++◌, All, Option, None, Some, fold, flat_map, get_or, length, map, take, option_map, refl, sym, ap, subst, ◌∙◌, append-nil, arith, option_map_or, cases_order, cases_lt, le-leb, lt-leb, get_or_append_left, get_or_at, length-map, length_push, map-append, All-head, All-tail, fold-append, below, same_name, NameId, IsSame, IsSame-same_name, DumpValue, IsDump, history_view, record_view, Setting, keep, put, Action, delete, change, add, copy, History, Record, state, state_from, Tree, Entry, entry_at, mergeinfo_after, tree_of, tree_after_record, start_tree, end_tree, with_revision, record_count, record_count-cons, flat_map-records_by_revision, tree_of-append, tree_of_push, length-with_revision, start_tree-nil, action_at_tick, record_at_tick, end_of, ends_of, Found, at, at_with, is, absent, Look, look, look_at, looks_of, with_look, look_after, found_after_action, with_setting, from_beginning, IsMapOfFirstRecords, MapValue, hi_of, look_in, records_at_ticks, state_in, Standing, standing_at, standing_of}
 use Rattle.std.proofs.lemmas.Simd.{map-map}
-use Rattle.svn_path.specs.Below.{below}
-use Rattle.svn_path.specs.Path.{same_name}
-use Rattle.svn_path.specs.declared.names.NameId.{NameId}
-use Rattle.svn_path.proofs.Belows.{IsSame, IsSame-same_name}
-use Rattle.svn_dump.specs.Dump.{DumpValue, IsDump, history_view, record_view}
-use Rattle.svn_dump.specs.History.{Setting, keep, put, Action, delete, change, add, copy, History, Record}
-use Rattle.svn_dump.specs.State.{state, state_from}
-use Rattle.svn_dump.specs.Tree.{Tree, Entry, entry_at, mergeinfo_after, tree_of, tree_after_record, start_tree, end_tree, with_revision}
-use Rattle.svn_dump.proofs.Faults.{record_count, record_count-cons}
-use Rattle.svn_dump.proofs.Grouped.{flat_map-records_by_revision}
-use Rattle.svn_dump.proofs.Revisions.{tree_of-append, tree_of_push, length-with_revision, start_tree-nil}
 use Rattle.svn_dump.proofs.Trees.{entry_from, entry_left, settled_entry, settled_entry_at, entry_at-first_tree, entry_at-tree_after_action}
-use Rattle.block_map.specs.Ends.{action_at_tick, record_at_tick, end_of, ends_of}
-use Rattle.block_map.specs.Look.{Found, at, at_with, is, absent, Look, look, look_at, looks_of, with_look, look_after, found_after_action, with_setting, from_beginning}
-use Rattle.block_map.specs.Map.{IsMapOfFirstRecords, MapValue, hi_of, look_in, records_at_ticks, state_in}
-use Rattle.block_map.specs.Standing.{Standing, standing_at, standing_of}
 use Rattle.block_map.proofs.RevisionEnds.{ends_of-at}
 use Rattle.block_map.proofs.RevisionStates.{standing_of_entry, standing_at_next, standing_past, state_from-within, state_from-zero, tree_within_all, lengths-history_view, total-dump}
 use Rattle.block_map.proofs.Sources.{IsFromBelow, AreFromBelow, AreFromBelow-history_view, end_of-cons, end_of-zero}

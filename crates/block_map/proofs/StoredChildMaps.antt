@@ -1,12 +1,7 @@
 -- Maps of children as they are stored, one after another.
-use Rattle.std.proofs.Common.{◌≡◌, ◌≢◌, ℕ, zero, suc, ◌-◌, List, [], ◌∷◌, ◌++◌, Option, Some, None, Bor, IfSome, is_some, ltb, length, get_or, map, option_map, option_copied, refl, sym, ap, subst, ◌∙◌, arith}
-use Rattle.std.specs.Prelude.{slice_get}
-use Rattle.std.proofs.lemmas.Bool.{ltb-true, ltb-false}
-use Rattle.std.proofs.lemmas.List.{map-append}
-use Rattle.std.proofs.lemmas.Option.{slice_get-map, slice_get_past, slice_get_read}
-use Rattle.block_map.specs.ChildMaps.{child_map_at, AreOrdered, IsOrderedAfter}
+use Rattle.block_map.proofs.Common.{◌≡◌, ◌≢◌, ℕ, zero, suc, ◌-◌, List, [], ◌∷◌, ◌++◌, Option, Some, None, Bor, IfSome, is_some, ltb, length, get_or, map, option_map, refl, sym, ap, subst, ◌∙◌, arith, slice_get, ltb-true, ltb-false, map-append, slice_get-map, slice_get_past, slice_get_read, child_map_at, AreOrdered, IsOrderedAfter, ChildMap}
+use Rattle.std.proofs.Common.{option_copied}
 use Rattle.block_map.specs.StoredChildMaps.{child_map_of}
-use Rattle.block_map.specs.declared.trie.child_map.ChildMap.{ChildMap}
 use Rattle.block_map.specs.declared.trie.stored_child_map.StoredChildMap.{StoredChildMap}
 use Rattle.block_map.proofs.ChildMapLookups.{AreOrdered-push}
 

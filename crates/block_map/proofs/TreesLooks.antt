@@ -1,23 +1,6 @@
 -- The roots of trees, and what they show.
-use Rattle.std.proofs.Common.{◌≡◌, ℕ, ◌+◌, ◌-◌, ◌^◌, ◌<◌, ◌≤◌, Bool, List, [], ◌∷◌, ◌++◌, Option, None, Some, get_or, length, inl, inr, refl, sym, ap, subst, ◌∙◌, arith}
-use Rattle.std.specs.Prelude.{fold, slice_get}
-use Rattle.std.proofs.lemmas.Bool.{cases_lt}
-use Rattle.std.proofs.lemmas.List.{length_push}
-use Rattle.std.proofs.lemmas.List.Sums.{fold-append}
-use Rattle.std.proofs.lemmas.Option.{same_Some, slice_get-get_or, slice_get_within}
-use Rattle.svn_path.specs.Below.{below}
-use Rattle.svn_path.specs.Path.{same_name}
-use Rattle.svn_path.specs.declared.names.NameId.{NameId}
-use Rattle.svn_path.proofs.Belows.{IsSame-same_name, append-from_below}
-use Rattle.svn_dump.specs.History.{Record}
-use Rattle.svn_dump.specs.declared.record.ValueId.{ValueId}
-use Rattle.svn_dump.proofs.Lists.{slice_get-front}
-use Rattle.block_map.specs.Trees.{AreTrees, IsRootAfter, IsRootAt, SameTrees, ShowsAction, ShowsTick, end_of_trees, look_after_action, look_after_record, look_in_trees}
-use Rattle.block_map.specs.Look.{Found, Look, found_after_action, resolved, look, look_after, look_at, looks_of, with_look}
-use Rattle.block_map.specs.Trie.{ExtendsTrie, IsNodeOf, IsSound, PutsNode, TrieValue, at_path, at_root, found_below, nothing}
-use Rattle.block_map.specs.declared.trees.Trees.{Trees}
-use Rattle.block_map.specs.declared.trie.node.Node.{Node}
-use Rattle.block_map.specs.declared.trie.node.NodeId.{NodeId}
+use Rattle.block_map.proofs.Common.{◌≡◌, ℕ, ◌+◌, ◌-◌, ◌^◌, ◌<◌, ◌≤◌, Bool, List, [], ◌∷◌, ◌++◌, Option, None, Some, get_or, length, inl, inr, refl, sym, ap, subst, ◌∙◌, arith, slice_get, cases_lt, length_push, fold-append, same_Some, slice_get-get_or, slice_get_within, below, same_name, NameId, IsSame-same_name, append-from_below, Record, ValueId, slice_get-front, AreTrees, IsRootAfter, IsRootAt, SameTrees, ShowsAction, ShowsTick, end_of_trees, look_after_action, look_after_record, look_in_trees, Found, Look, found_after_action, resolved, look, look_after, look_at, looks_of, with_look, ExtendsTrie, IsNodeOf, IsSound, PutsNode, TrieValue, at_path, at_root, found_below, nothing, Trees, Node, NodeId}
+use Rattle.std.specs.Prelude.{fold}
 use Rattle.block_map.proofs.GrownTries.{Extends-none, found_below-grown, slice_get-grown, slice_get-last}
 use Rattle.block_map.proofs.Standings.{look_at-append, look_at_push}
 

@@ -1,21 +1,8 @@
 -- The nodes that records put, and what they show.
-use Rattle.std.proofs.Common.{◌≡◌, ◌≢◌, ℕ, zero, suc, ◌≤◌, List, [], ◌∷◌, ◌++◌, None, Some, refl, sym, ap, ◌∙◌}
-use Rattle.std.specs.Option.{option_and_then}
-use Rattle.std.specs.Prelude.{slice_get}
-use Rattle.svn_path.specs.Path.{same_name}
-use Rattle.svn_path.specs.declared.names.NameId.{NameId}
+use Rattle.block_map.proofs.Common.{◌≡◌, ◌≢◌, ℕ, zero, suc, ◌≤◌, List, [], ◌∷◌, ◌++◌, None, Some, refl, sym, ap, ◌∙◌, option_and_then, slice_get, same_name, NameId, ValueId, ShowsPath, look_in_trees, from_beginning, resolved, looks_of, absent_node, no_children, node_at_location, node_of_kind, LookOfNumbers, TrieValue, as_at, found_below, base_look, Trees, Base, NodeId, LocationId}
 use Rattle.svn_dump.specs.declared.record.Kind.TheVariants.{Dir}
-use Rattle.svn_dump.specs.declared.record.ValueId.{ValueId}
-use Rattle.block_map.specs.Trees.{ShowsPath, look_in_trees}
 use Rattle.block_map.specs.Look as found
-use Rattle.block_map.specs.Look.{from_beginning, resolved, looks_of}
-use Rattle.block_map.specs.Node.{absent_node, no_children, node_at_location, node_of_kind}
-use Rattle.block_map.specs.Trie.{LookOfNumbers, TrieValue, as_at, found_below, base_look}
-use Rattle.block_map.specs.declared.trees.Trees.{Trees}
 use Rattle.block_map.specs.declared.trie.node.OwnEntry.{OwnEntry}
-use Rattle.block_map.specs.declared.trie.node.Base.{Base}
-use Rattle.block_map.specs.declared.trie.node.NodeId.{NodeId}
-use Rattle.block_map.specs.declared.trie.location.LocationId.{LocationId}
 use Rattle.block_map.proofs.GrownTries.{found_within-zero}
 use Rattle.block_map.proofs.Standings.{look_at_first}
 

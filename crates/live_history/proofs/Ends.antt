@@ -1,17 +1,5 @@
 -- Turns that are replied to after others, and why a talk ends after them.
-use Rattle.std.proofs.Common.{◌≡◌, ℕ, ◌≤◌, List, [], ◌++◌, Option, inl, inr, sym, ap, subst, ◌∙◌, append_assoc}
-use Rattle.std.specs.Prelude.{IsFalse, IsTrue}
-use Rattle.std.proofs.KnownBytes.{Appends-nil, Appends-trans}
-use Rattle.std.proofs.lemmas.List.Concat.{flat_map-append}
-use Rattle.std.proofs.lemmas.List.Elements.{All-append, All-nil}
-use Rattle.devices.specs.Device.{PullState, PushState}
-use Rattle.live_history.specs.Replies.{AreReplied}
-use Rattle.live_history.specs.Stream.{AreTaken, IsReadUpTo, Stream}
-use Rattle.live_history.specs.Talk.{TalkState, after_turns}
-use Rattle.live_history.specs.TalkEnd.{AreAllReplied, IsEndEarly, IsEndReason, IsOutputKept, IsPieceReason, most_answered}
-use Rattle.live_history.specs.Turn.{IsTurn, Turn, turn_bytes, turns_bytes}
-use Rattle.live_history.specs.declared.talk_error.TalkError.{TalkError}
-use Rattle.live_history.specs.declared.talk_error.TalkError.TheVariants.{Cut, Run, TooMany, Unsent}
+use Rattle.live_history.proofs.Common.{◌≡◌, ℕ, ◌≤◌, List, [], ◌++◌, Option, inl, inr, sym, ap, subst, ◌∙◌, append_assoc, IsFalse, IsTrue, Appends-nil, Appends-trans, flat_map-append, All-append, All-nil, PullState, PushState, AreReplied, AreTaken, IsReadUpTo, Stream, TalkState, after_turns, AreAllReplied, IsEndEarly, IsEndReason, IsOutputKept, IsPieceReason, most_answered, IsTurn, Turn, turn_bytes, turns_bytes, TalkError, Cut, Run, TooMany, Unsent}
 use Rattle.live_history.proofs.Streams.{AreLast-more, AreTaken-more, AreTaken-none, HasEnded-more, IsCutLine-more, IsReadUpTo-more, IsUnread-more, IsUnreadLine-more}
 use Rattle.live_history.proofs.Talks.{IsTalk-append, IsTalk-none, after_turns-append}
 

@@ -1,23 +1,12 @@
 -- Bytes of a piece that come to the reader of a dump, after others.
-use Rattle.std.proofs.Common.{◌≡◌, ◌⊎◌, ℕ, ◌+◌, ◌<◌, ◌≤◌, None, inl, inr, List, [], ◌++◌, length, take, drop, refl, sym, ap, subst, ◌∙◌, append_assoc, append-nil, arith, length-append, take-append-drop}
-use Rattle.std.proofs.lemmas.List.{length-take-le}
-use Rattle.devices.specs.Device.{PullState}
+use Rattle.live_history.proofs.Common.{◌≡◌, ◌⊎◌, ℕ, ◌+◌, ◌<◌, ◌≤◌, None, inl, inr, List, [], ◌++◌, length, take, drop, refl, sym, ap, subst, ◌∙◌, append_assoc, append-nil, arith, length-append, take-append-drop, length-take-le, PullState, FeedValue, HasRead, most_bytes, IsFed, IsPieceEnd, IsReadEnd, IsReadNoMore, ReadAheadValue, stream, AreLast, AreTaken, IsReadUpTo, Stream, IsPartOfPiece, IsPieceReason, TalkError, Cut, Run}
 use Rattle.svn_dump.specs.Decided.{IsDecidedError, IsUndecided}
-use Rattle.svn_dump.specs.Feed.{FeedValue, HasRead}
 use Rattle.svn_dump.specs.Growth.{GrowsTo}
 use Rattle.svn_dump.specs.declared.error.DumpError.{DumpError}
 use Rattle.svn_dump.specs.declared.error.DumpError.TheVariants as refusal
 use Rattle.svn_dump.proofs.Growth.{GrowsTo-twice, GrowsTo_same}
 use Rattle.svn_report.specs.ReportError.{run_error_of_dump}
-use Rattle.svn_report.specs.ReportFrom.{most_bytes}
 use Rattle.svn_report.specs.declared.run_error.RunError.TheVariants as run
-use Rattle.live_history.specs.History.{IsFed}
-use Rattle.live_history.specs.PieceEnd.{IsPieceEnd}
-use Rattle.live_history.specs.ReadAhead.{IsReadEnd, IsReadNoMore, ReadAheadValue, stream}
-use Rattle.live_history.specs.Stream.{AreLast, AreTaken, IsReadUpTo, Stream}
-use Rattle.live_history.specs.TalkEnd.{IsPartOfPiece, IsPieceReason}
-use Rattle.live_history.specs.declared.talk_error.TalkError.{TalkError}
-use Rattle.live_history.specs.declared.talk_error.TalkError.TheVariants.{Cut, Run}
 use Rattle.live_history.proofs.ReadAheads.{Consumes-taken, Consumes-unread}
 use Rattle.live_history.proofs.Streams.{AreLast-more, AreTaken-more, AreTaken-none, IsReadUpTo-more, IsUnread-more}
 

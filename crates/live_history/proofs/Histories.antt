@@ -1,26 +1,16 @@
 -- A history that was read, or that has grown by a piece, and why there is none.
-use Rattle.std.proofs.Common.{ℕ, ◌≤◌, inl, inr, List, [], ◌++◌, length, refl, sym, ap, append-nil, arith}
-use Rattle.devices.specs.Device.{PullState}
-use Rattle.svn_dump.specs.Dump.{DumpValue, history_in_bytes}
+use Rattle.live_history.proofs.Common.{ℕ, ◌≤◌, inl, inr, List, [], ◌++◌, length, refl, sym, ap, append-nil, arith, PullState, DumpValue, history_in_bytes, FeedValue, HasRead, IsDumpErrorFrom, most_bytes, IsFed, IsPieceEnd, ReadAheadValue, stream, IsReadUpTo, Stream, IsNoHistory, Run}
 use Rattle.svn_dump.specs.DumpError.{IsRefusal}
 use Rattle.svn_dump.specs.DumpText.{IsDumpText}
-use Rattle.svn_dump.specs.Feed.{FeedValue, HasRead}
 use Rattle.svn_dump.specs.declared.error.DumpError.{DumpError}
 use Rattle.svn_dump.specs.declared.error.DumpError.TheVariants as refusal
 use Rattle.svn_report.specs.Load.{IsReadWhole}
 use Rattle.svn_report.specs.LoadRepo.{IsLoadError}
 use Rattle.svn_report.specs.ReportError.{run_error_of_dump, run_error_of_load}
-use Rattle.svn_report.specs.ReportFrom.{IsDumpErrorFrom, most_bytes}
 use Rattle.svn_report.specs.declared.repository.LoadError.{LoadError}
 use Rattle.svn_report.specs.declared.repository.LoadError.TheVariants as load
 use Rattle.svn_report.specs.declared.run_error.RunError.{RunError}
 use Rattle.svn_report.specs.declared.run_error.RunError.TheVariants as run
-use Rattle.live_history.specs.History.{IsFed}
-use Rattle.live_history.specs.PieceEnd.{IsPieceEnd}
-use Rattle.live_history.specs.ReadAhead.{ReadAheadValue, stream}
-use Rattle.live_history.specs.Stream.{IsReadUpTo, Stream}
-use Rattle.live_history.specs.TalkEnd.{IsNoHistory}
-use Rattle.live_history.specs.declared.talk_error.TalkError.TheVariants.{Run}
 use Rattle.live_history.proofs.FedPieces.{IsFed-undecided}
 use Rattle.live_history.proofs.ReadAheads.{Consumes-unread}
 use Rattle.live_history.proofs.Streams.{IsReadUpTo-more}

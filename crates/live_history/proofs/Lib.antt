@@ -1,3 +1,4 @@
+mod Common
 mod Ends
 mod FedPieces
 mod Histories

@@ -1,26 +1,7 @@
 -- A talk that goes on with a piece.
-use Rattle.std.proofs.Common.{◌≡◌, ℕ, ◌≤◌, inl, inr, List, [], ◌∷◌, ◌++◌, Option, Some, length, refl, sym, ap, subst, ◌∙◌, append-nil, arith, take}
-use Rattle.std.specs.Io.KnownBytes.{Appends}
-use Rattle.std.specs.Prelude.{IsFalse, IsTrue}
-use Rattle.std.proofs.lemmas.List.Elements.{All-cons, All-nil}
-use Rattle.devices.specs.Device.{PullState, PushState}
+use Rattle.live_history.proofs.Common.{◌≡◌, ℕ, ◌≤◌, inl, inr, List, [], ◌∷◌, ◌++◌, Option, Some, length, refl, sym, ap, subst, ◌∙◌, append-nil, arith, take, Appends, IsFalse, IsTrue, All-cons, All-nil, PullState, PushState, line_text, history_in_bytes, most_bytes, IsGrown, IsHistoryOf, IsPieceEnd, ReadAheadValue, stream, AreReplied, IsUpToPiece, AreTaken, IsReadUpTo, Stream, IsTalk, TalkState, after_turns, ready_text, IsEndEarly, IsOutputKept, most_answered, IsAfterPiece, IsUnsaid, IsTurn, Turn, piece, piece_line, turn_bytes, turns_bytes, History, TalkError, Run, Unsent}
 use Rattle.devices.specs.declared.sending.SendError.{SendError}
-use Rattle.svn_text.specs.Line.{line_text}
-use Rattle.svn_dump.specs.Dump.{history_in_bytes}
-use Rattle.svn_report.specs.ReportFrom.{most_bytes}
 use Rattle.svn_report.specs.declared.run_error.RunError.TheVariants as run
-use Rattle.live_history.specs.History.{IsGrown, IsHistoryOf}
-use Rattle.live_history.specs.PieceEnd.{IsPieceEnd}
-use Rattle.live_history.specs.ReadAhead.{ReadAheadValue, stream}
-use Rattle.live_history.specs.Replies.{AreReplied, IsUpToPiece}
-use Rattle.live_history.specs.Stream.{AreTaken, IsReadUpTo, Stream}
-use Rattle.live_history.specs.Talk.{IsTalk, TalkState, after_turns, ready_text}
-use Rattle.live_history.specs.TalkEnd.{IsEndEarly, IsOutputKept, most_answered}
-use Rattle.live_history.specs.Talking.{IsAfterPiece, IsUnsaid}
-use Rattle.live_history.specs.Turn.{IsTurn, Turn, piece, piece_line, turn_bytes, turns_bytes}
-use Rattle.live_history.specs.declared.history.History.{History}
-use Rattle.live_history.specs.declared.talk_error.TalkError.{TalkError}
-use Rattle.live_history.specs.declared.talk_error.TalkError.TheVariants.{Run, Unsent}
 use Rattle.live_history.proofs.Ends.{AreReplied-more, AreReplied-none, IsEndEarly-more, IsEndEarly-now, IsOutputKept-sound, IsPieceReason-more}
 use Rattle.live_history.proofs.ReadAheads.{Consumes-unread}
 use Rattle.live_history.proofs.Streams.{AreTaken-more, IsReadUpTo-more}

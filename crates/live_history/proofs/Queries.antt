@@ -1,26 +1,8 @@
 -- Replies to queries, after other turns.
-use Rattle.std.proofs.Common.{◌≡◌, ◌⊎◌, ℕ, ◌+◌, ◌-◌, ◌<◌, ◌≤◌, inl, inr, All, List, [], ◌∷◌, ◌++◌, Option, length, map, take, drop, refl, sym, ap, subst, ◌∙◌, append_assoc, append-nil, arith, length-append}
-use Rattle.std.specs.Io.KnownBytes.{Appends}
-use Rattle.std.specs.List.{flat_map}
-use Rattle.std.specs.Prelude.{IsTrue}
+use Rattle.live_history.proofs.Common.{◌≡◌, ◌⊎◌, ℕ, ◌+◌, ◌-◌, ◌<◌, ◌≤◌, inl, inr, All, List, [], ◌∷◌, ◌++◌, Option, length, map, take, drop, refl, sym, ap, subst, ◌∙◌, append_assoc, append-nil, arith, length-append, Appends, flat_map, IsTrue, length-map, All-head, All-map, All-nil, PullState, PushState, line_text, DumpValue, history_in_bytes, most_bytes, AreNear, IsLineEnd, ReadAheadValue, stream, AreRepliedTo, replies, AreLast, AreTaken, IsCutLine, IsReadUpTo, IsUnreadLine, Stream, IsLawfulDump, IsTalk, TalkState, after_turns, AreAllReplied, IsEndEarly, most_answered, IsTurn, query, turn_bytes, turns_bytes, AreQueries, HasQuery, TalkError, Run, TooMany, Unsent}
 use Rattle.std.proofs.Math.Seq.{take-append_seam}
-use Rattle.std.proofs.lemmas.List.{length-map}
-use Rattle.std.proofs.lemmas.List.Elements.{All-head, All-map, All-nil}
-use Rattle.devices.specs.Device.{PullState, PushState}
 use Rattle.devices.specs.declared.sending.SendError.{SendError}
-use Rattle.svn_text.specs.Line.{line_text}
-use Rattle.svn_dump.specs.Dump.{DumpValue, history_in_bytes}
-use Rattle.svn_report.specs.ReportFrom.{most_bytes}
 use Rattle.svn_report.specs.declared.run_error.RunError.TheVariants as run
-use Rattle.live_history.specs.ReadAhead.{AreNear, IsLineEnd, ReadAheadValue, stream}
-use Rattle.live_history.specs.Replies.{AreRepliedTo, replies}
-use Rattle.live_history.specs.Stream.{AreLast, AreTaken, IsCutLine, IsReadUpTo, IsUnreadLine, Stream}
-use Rattle.live_history.specs.Talk.{IsLawfulDump, IsTalk, TalkState, after_turns}
-use Rattle.live_history.specs.TalkEnd.{AreAllReplied, IsEndEarly, most_answered}
-use Rattle.live_history.specs.Turn.{IsTurn, query, turn_bytes, turns_bytes}
-use Rattle.live_history.specs.Turns.{AreQueries, HasQuery}
-use Rattle.live_history.specs.declared.talk_error.TalkError.{TalkError}
-use Rattle.live_history.specs.declared.talk_error.TalkError.TheVariants.{Run, TooMany, Unsent}
 use Rattle.live_history.proofs.Ends.{AreReplied-more, AreReplied-none, IsEndEarly-more, IsEndEarly-now}
 use Rattle.live_history.proofs.FedPieces.{AreTaken-front}
 use Rattle.live_history.proofs.ReadAheads.{AreNear-line, Consumes-unread}

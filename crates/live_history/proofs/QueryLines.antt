@@ -1,13 +1,6 @@
 -- The first queries of an input, and one more.
-use Rattle.std.proofs.Common.{◌≡◌, ℕ, List, [], ◌∷◌, ◌++◌, map, sym, ap, ◌∙◌, append_assoc, append-nil}
-use Rattle.std.specs.List.{flat_map}
-use Rattle.std.proofs.lemmas.List.{map-append}
-use Rattle.std.proofs.lemmas.List.Concat.{flat_map-append}
-use Rattle.std.proofs.lemmas.List.Elements.{All-append, All-cons, All-nil}
+use Rattle.live_history.proofs.Common.{◌≡◌, ℕ, List, [], ◌∷◌, ◌++◌, map, sym, ap, ◌∙◌, append_assoc, append-nil, flat_map, map-append, flat_map-append, All-append, All-cons, All-nil, line_text, IsTurn, query, AreQueries, IsFirstQuery}
 use denote.Ref.{Bor}
-use Rattle.svn_text.specs.Line.{line_text}
-use Rattle.live_history.specs.Turn.{IsTurn, query}
-use Rattle.live_history.specs.Turns.{AreQueries, IsFirstQuery}
 
 pub AreQueries-more : (bytes : List ℕ) (lines : List (Bor (List ℕ))) (line : Bor (List ℕ)) (rest more : List ℕ) → AreQueries bytes (map (λ each. each.now) lines) rest
     → IsFirstQuery rest line.now more → AreQueries bytes (map (λ each. each.now) (lines ++ line ∷ [])) more

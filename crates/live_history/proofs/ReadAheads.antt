@@ -1,18 +1,9 @@
 -- Bytes that are read ahead of an input, and the lines that they begin with.
-use Rattle.std.proofs.Common.{◌≡◌, ℕ, ◌+◌, ◌-◌, ◌≤◌, ◌==◌, false, true, inl, inr, List, [], ◌∷◌, ◌++◌, None, Option, Some, length, get_or, take, drop, sym, ap, subst, ◌∙◌, refl, append_assoc, arith, length-append, length-drop, take-append-drop, take_all}
-use Rattle.std.specs.Io.KnownBytes.{Consumes, Keeps, prepend_known}
-use Rattle.std.specs.Prelude.{Bool, if◌then◌else◌}
-use Rattle.std.proofs.KnownBytes.{Consumes-kept, Consumes-trans}
+use Rattle.live_history.proofs.Common.{◌≡◌, ℕ, ◌+◌, ◌-◌, ◌≤◌, ◌==◌, false, true, inl, inr, List, [], ◌∷◌, ◌++◌, None, Option, Some, length, get_or, take, drop, sym, ap, subst, ◌∙◌, refl, append_assoc, arith, length-append, length-drop, take-append-drop, take_all, Consumes, Keeps, prepend_known, Bool, if◌then◌else◌, Consumes-kept, Consumes-trans, drop-take, length-take-le, take-append-le, take-take, All-append, All-drop, All-get_or, All-nil, IsCutAt, Lacks, line_text, most_bytes, AreNear, HasLine}
 use Rattle.std.proofs.lemmas.Bool.{cases_lt}
 use Rattle.std.proofs.Math.ListN.{get_or-append}
 use Rattle.std.proofs.Math.Seq.{get_or-append_seam, take-append_seam}
-use Rattle.std.proofs.lemmas.List.{drop-take, length-take-le, take-append-le, take-take}
-use Rattle.std.proofs.lemmas.List.Elements.{All-append, All-drop, All-get_or, All-nil}
-use Rattle.svn_text.specs.Cut.{IsCutAt, Lacks}
-use Rattle.svn_text.specs.Line.{line_text}
 use Rattle.svn_text.proofs.Cuts.{CutsFirst, CutsFirst-IsCutAt, slice_split-cut}
-use Rattle.svn_report.specs.ReportFrom.{most_bytes}
-use Rattle.live_history.specs.ReadAhead.{AreNear, HasLine}
 
 -- ---- what is to come
 

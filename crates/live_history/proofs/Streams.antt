@@ -1,10 +1,5 @@
 -- Bytes that are taken off an input after others.
-use Rattle.std.proofs.Common.{◌≡◌, ◌⊎◌, ℕ, ◌+◌, ◌≤◌, List, [], ◌++◌, inl, inr, refl, ap, subst, ◌∙◌, arith}
-use Rattle.std.specs.Prelude.{IsTrue}
-use Rattle.std.proofs.KnownBytes.{Consumes-nil, Consumes-trans}
-use Rattle.devices.specs.Device.{PullState}
-use Rattle.live_history.specs.Stream.{AreLast, AreTaken, HasEnded, IsCutLine, IsReadUpTo, IsUnread, IsUnreadLine, Stream}
-use Rattle.live_history.specs.declared.talk_error.TalkError.{TalkError}
+use Rattle.live_history.proofs.Common.{◌≡◌, ◌⊎◌, ℕ, ◌+◌, ◌≤◌, List, [], ◌++◌, inl, inr, refl, ap, subst, ◌∙◌, arith, IsTrue, Consumes-nil, Consumes-trans, PullState, AreLast, AreTaken, HasEnded, IsCutLine, IsReadUpTo, IsUnread, IsUnreadLine, Stream, TalkError}
 
 pub AreTaken-none : (old : Stream) → AreTaken old old []
 AreTaken-none old = record { bytes = Consumes-nil old.come; limit = refl; ends = refl; failures = refl }

@@ -1,13 +1,8 @@
 -- What is said for turns, and for those that follow them.
-use Rattle.std.proofs.Common.{◌≡◌, ℕ, ◌+◌, List, [], ◌∷◌, ◌++◌, length, map, refl, sym, ap, subst, ◌∙◌, append_assoc, append-nil, arith}
-use Rattle.std.specs.List.{flat_map}
-use Rattle.std.specs.Prelude.{bytes_eq}
-use Rattle.svn_text.specs.Line.{line_text}
+use Rattle.live_history.proofs.Common.{◌≡◌, ℕ, ◌+◌, List, [], ◌∷◌, ◌++◌, length, map, refl, sym, ap, subst, ◌∙◌, append_assoc, append-nil, arith, flat_map, bytes_eq, line_text, IsLawfulDump, IsReply, IsTalk, TalkState, after_turn, after_turns, query_text, Turn, query}
 use Rattle.svn_dump.specs.Record.{HistoryOfBytes}
 use Rattle.svn_dump.specs.Tree.{trees_of}
 use Rattle.svn_report.specs.Report.{texts_from}
-use Rattle.live_history.specs.Talk.{IsLawfulDump, IsReply, IsTalk, TalkState, after_turn, after_turns, query_text}
-use Rattle.live_history.specs.Turn.{Turn, query}
 
 -- no turns, no word
 pub IsTalk-none : (state : TalkState) → IsTalk state [] []

@@ -1,22 +1,8 @@
 -- What is known of a client before it is read, as turns are taken.
-use Rattle.std.proofs.Common.{◌≡◌, ℕ, ◌<◌, List, [], ◌++◌, None, Option, Some, inr, length, refl, sym, ap, subst, ◌∙◌, append_assoc, append-nil}
-use Rattle.std.specs.Prelude.{IsTrue}
-use Rattle.std.specs.Io.KnownBytes.{Appends, Consumes, prepend_known}
-use Rattle.std.proofs.KnownBytes.{Appends-trans, Consumes-nil, Consumes-trans, prepend_known-nil}
-use Rattle.std.proofs.lemmas.List.Concat.{flat_map-append}
-use Rattle.std.proofs.lemmas.List.Elements.{All-append, All-nil}
-use Rattle.devices.specs.Device.{PullState, PushState}
-use Rattle.svn_text.specs.Line.{line_text}
+use Rattle.live_history.proofs.Common.{◌≡◌, ℕ, ◌<◌, List, [], ◌++◌, None, Option, Some, inr, length, refl, sym, ap, subst, ◌∙◌, append_assoc, append-nil, IsTrue, Appends, Consumes, prepend_known, Appends-trans, Consumes-nil, Consumes-trans, prepend_known-nil, flat_map-append, All-append, All-nil, PullState, PushState, line_text, IsHistoryOf, AreReplied, AreRepliedTo, IsUpToPiece, Stream, IsLawfulDump, TalkState, ready_text, start_of, IsAfterPiece, IsTurn, Turn, piece_line, turn_bytes, turns_bytes, History}
 use Rattle.svn_dump.specs.Record.{HistoryOfBytes}
 use Rattle.live_history.specs.Client.{Ends, IsAllRepliedTo, IsRepliedUpTo}
-use Rattle.live_history.specs.History.{IsHistoryOf}
-use Rattle.live_history.specs.Replies.{AreReplied, AreRepliedTo, IsUpToPiece}
-use Rattle.live_history.specs.Stream.{Stream}
-use Rattle.live_history.specs.Talk.{IsLawfulDump, TalkState, ready_text, start_of}
-use Rattle.live_history.specs.Talking.{IsAfterPiece}
-use Rattle.live_history.specs.Turn.{IsTurn, Turn, piece_line, turn_bytes, turns_bytes}
 use Rattle.live_history.specs.Waiting.{IsCaughtUp, IsInPiece, IsPieceNext, state_after}
-use Rattle.live_history.specs.declared.history.History.{History}
 use Rattle.live_history.proofs.ReadAheads.{Consumes-ahead}
 use Rattle.live_history.proofs.Talks.{IsTalk-append, IsTalk-none, after_turns-append}
 

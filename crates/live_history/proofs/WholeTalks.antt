@@ -1,22 +1,8 @@
 -- Talks about a dump that was read, from the first word on.
-use Rattle.std.proofs.Common.{◌≡◌, ◌+◌, inl, inr, List, ℕ, [], ◌++◌, None, Option, Some, refl, ap, subst, ◌∙◌}
-use Rattle.std.specs.Prelude.{IsFalse, IsTrue}
-use Rattle.std.specs.Io.KnownBytes.{Appends, append_known}
-use Rattle.std.proofs.KnownBytes.{prepend_known-nil}
-use Rattle.devices.specs.Device.{PullState, PushState}
-use Rattle.svn_dump.specs.Dump.{history_in_bytes}
+use Rattle.live_history.proofs.Common.{◌≡◌, ◌+◌, inl, inr, List, ℕ, [], ◌++◌, None, Option, Some, refl, ap, subst, ◌∙◌, IsFalse, IsTrue, Appends, append_known, prepend_known-nil, PullState, PushState, history_in_bytes, IsHistoryFrom, ReadAheadValue, stream, stream_of, ready_text, start_of, AreAllReplied, IsEndEarly, IsNoHistory, IsOutputKept, IsTalkError, IsWholeTalk, IsUnsaid, History, TalkError, Run}
 use Rattle.svn_report.specs.Load.{most_reads}
 use Rattle.svn_report.specs.declared.run_error.RunError.{RunError}
 use Rattle.svn_report.specs.declared.run_error.RunError.TheVariants as run
-use Rattle.live_history.specs.History.{IsHistoryFrom}
-use Rattle.live_history.specs.ReadAhead.{ReadAheadValue, stream}
-use Rattle.live_history.specs.Stream.{stream_of}
-use Rattle.live_history.specs.Talk.{ready_text, start_of}
-use Rattle.live_history.specs.TalkEnd.{AreAllReplied, IsEndEarly, IsNoHistory, IsOutputKept, IsTalkError, IsWholeTalk}
-use Rattle.live_history.specs.Talking.{IsUnsaid}
-use Rattle.live_history.specs.declared.history.History.{History}
-use Rattle.live_history.specs.declared.talk_error.TalkError.{TalkError}
-use Rattle.live_history.specs.declared.talk_error.TalkError.TheVariants.{Run}
 
 -- what goes out after a first text
 Appends-after : (gone mid new : Option (List ℕ)) (text said : List ℕ) → Appends gone mid text → Appends mid new said → Appends (append_known gone text) new said

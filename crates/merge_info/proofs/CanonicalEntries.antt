@@ -1,16 +1,7 @@
 -- The entries of a value, made of the lines of a map one after another.
-use Rattle.std.proofs.Common.{◌≡◌, ◌≢◌, true, List, [], ◌∷◌, ◌++◌, All, filter, map, bytes_eq, get_or, inl, inr, refl, sym, ◌∙◌, append_assoc, append-nil}
-use Rattle.std.proofs.lemmas.Bool.{cases_Bool}
-use Rattle.std.proofs.lemmas.List.Elements.{All-head, All-map, All-rest, All-tail}
+use Rattle.merge_info.proofs.Common.{◌≡◌, ◌≢◌, true, List, [], ◌∷◌, ◌++◌, All, filter, map, bytes_eq, get_or, inl, inr, refl, sym, ◌∙◌, append-nil, cases_Bool, All-head, All-map, All-rest, All-tail, IsCanonical, Run, canonical_runs-HasSameNumbers, canonical_runs-IsCanonical, HasSameNumbers-append, HasSameNumbers-refl, canonical_value, has_runs, is_some_run, IsLine, IsPrintedPath, Line, AreRunsByPath, RunsByPath, lines_in, AreRising, HasSameRevisions, IsMergeInfo, runs_at}
+use Rattle.std.proofs.Common.{append_assoc}
 use Rattle.range_list.specs.Canonical.{canonical_runs}
-use Rattle.range_list.specs.Rangelist.{IsCanonical}
-use Rattle.range_list.specs.declared.run.Run.{Run}
-use Rattle.range_list.proofs.Maximal.{canonical_runs-HasSameNumbers, canonical_runs-IsCanonical}
-use Rattle.range_list.proofs.Same.{HasSameNumbers-append, HasSameNumbers-refl}
-use Rattle.merge_info.specs.CanonicalValue.{canonical_value, has_runs, is_some_run}
-use Rattle.merge_info.specs.Line.{IsLine, IsPrintedPath, Line}
-use Rattle.merge_info.specs.RunsByPath.{AreRunsByPath, RunsByPath, lines_in}
-use Rattle.merge_info.specs.Value.{AreRising, HasSameRevisions, IsMergeInfo, runs_at}
 use Rattle.merge_info.proofs.CanonicalValues.{HasSameRevisions-canonical_value, IsMergeInfo-canonical_value, IsMergeInfo-filter, canonical_value-only, runs_at-filter}
 
 abbrev pub canonical_line : Line → Line

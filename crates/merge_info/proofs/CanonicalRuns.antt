@@ -1,12 +1,5 @@
 -- Canonical lists of runs: the runs rise, and so no two of them clash.
-use Rattle.std.proofs.Common.{◌≡◌, ◌<◌, false, List, [], ◌∷◌, get_or, All, refl, ◌∙◌, arith}
-use Rattle.std.proofs.lemmas.Bool.Decides.{nat_tests}
-use Rattle.std.proofs.lemmas.List.Elements.{All-cons, All-nil}
-use Rattle.std.proofs.lemmas.List.Folds.{list_any_none}
-use Rattle.range_list.specs.Rangelist.{IsCanonical}
-use Rattle.range_list.specs.declared.run.Run.{Run}
-use Rattle.range_list.proofs.Canonical.{IsCanonical-head, IsCanonical-tail}
-use Rattle.merge_info.specs.Line.{has_clash}
+use Rattle.merge_info.proofs.Common.{◌≡◌, ◌<◌, false, List, [], ◌∷◌, get_or, All, refl, ◌∙◌, arith, nat_tests, All-cons, All-nil, list_any_none, IsCanonical, Run, IsCanonical-head, IsCanonical-tail, has_clash}
 use Rattle.merge_info.proofs.Clashes.{clash, has_clash-cons}
 
 -- the first ends before the others begin

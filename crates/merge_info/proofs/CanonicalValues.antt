@@ -1,25 +1,8 @@
 -- The canonical value of lines has their runs, and is the only value that has.
-use Rattle.std.proofs.Common.{◌≡◌, ℕ, false, List, [], ◌∷◌, All, filter, map, bytes_eq, get_or, inl, inr, refl, sym, ap, subst, ◌∙◌, arith, Ordering}
-use Rattle.std.proofs.lemmas.Bool.{both_ways, cases_Bool}
-use Rattle.std.proofs.lemmas.Cmp.{nat_list_cmp_total}
-use Rattle.std.proofs.lemmas.List.{get_or-map, length-map}
-use Rattle.std.proofs.lemmas.List.Elements.{All-nil, All-cons, All-head, All-tail, All-append, All-filter, All-map, filter_passes}
-use Rattle.std.proofs.lemmas.List.Folds.{Any-from_list_any}
+use Rattle.merge_info.proofs.Common.{◌≡◌, ℕ, false, List, [], ◌∷◌, All, filter, map, bytes_eq, get_or, inl, inr, refl, sym, ap, subst, ◌∙◌, arith, Ordering, both_ways, cases_Bool, nat_list_cmp_total, get_or-map, length-map, All-nil, All-cons, All-head, All-tail, All-append, All-filter, All-map, filter_passes, Any-from_list_any, bytes_eq-Decides, slice_cmp, list_any, match_ordering, nat_cmp, ordering_reverse, Less, Equal, Greater, IsCanonical, IsRun, Run, canonical_runs-HasSameNumbers, canonical_runs-IsCanonical, HasSameNumbers-refl, HasSameNumbers-sym, HasSameNumbers-trans, canonical_value, has_runs, insert_path, is_some_run, entry_at, paths_of, IsLine, IsPrintedPath, Line, AreRising, HasSameRevisions, IsMergeInfo, runs_at}
 use Rattle.std.proofs.lemmas.Map.Lookups.{exact_bytes}
 use Rattle.std.proofs.lemmas.Map.Views.{All-insert_key}
-use Rattle.std.proofs.lemmas.Slice.Eq.{bytes_eq-Decides}
 use Rattle.std.specs.BTreeSet.{insert_key}
-use Rattle.std.specs.Cmp.Lexicographic.{slice_cmp}
-use Rattle.std.specs.List.{list_any}
-use Rattle.std.specs.Ordering.{match_ordering, nat_cmp, ordering_reverse}
-use Rattle.std.specs.declared.cmp.Ordering.TheVariants.{Less, Equal, Greater}
-use Rattle.range_list.specs.Rangelist.{IsCanonical, IsRun}
-use Rattle.range_list.specs.declared.run.Run.{Run}
-use Rattle.range_list.proofs.Maximal.{canonical_runs-HasSameNumbers, canonical_runs-IsCanonical}
-use Rattle.range_list.proofs.Same.{HasSameNumbers-refl, HasSameNumbers-sym, HasSameNumbers-trans}
-use Rattle.merge_info.specs.CanonicalValue.{canonical_value, has_runs, insert_path, is_some_run, entry_at, paths_of}
-use Rattle.merge_info.specs.Line.{IsLine, IsPrintedPath, Line}
-use Rattle.merge_info.specs.Value.{AreRising, HasSameRevisions, IsMergeInfo, runs_at}
 use Rattle.merge_info.proofs.Each.{All-from_list_any, All-from_map}
 use Rattle.merge_info.proofs.OnlyValues.{same_values}
 use Rattle.merge_info.proofs.Rising.{AreRising-cons, AreRising-filter, AreRising-first, AreRising-tail, IsPathBefore, runs_at-line}

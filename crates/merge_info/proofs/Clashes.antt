@@ -1,18 +1,7 @@
 -- Runs in which some number is given both with and without `*`, and a scan that finds such a number.
-use Rattle.std.proofs.Common.{◌≡◌, ℕ, ◌≤◌, nat_le, Bool, true, false, ◌||◌, List, [], ◌∷◌, All, get_or, Some, refl, sym, ◌∙◌, arith, max, suc}
-use Rattle.std.specs.Prelude.{if◌then◌else◌}
+use Rattle.merge_info.proofs.Common.{◌≡◌, ℕ, ◌≤◌, nat_le, Bool, true, false, ◌||◌, List, [], ◌∷◌, All, get_or, Some, refl, sym, ◌∙◌, arith, max, suc, if◌then◌else◌, IsAllAdjacentAnswer, list_any, IsNonDecreasingBy, IsPermutation, nat_tests, All-tail, list_any_none, IsNonDecreasingBy-from_all_adjacent, list_any-IsPermutation, is_le, is_some_and, nat_cmp, IsRun, Run, clashes, has_clash}
 use Rattle.std.specs.Bool.{OnTrue}
-use Rattle.std.specs.List.{IsAllAdjacentAnswer, list_any}
-use Rattle.std.specs.List.Sorted.{IsNonDecreasingBy, IsPermutation}
-use Rattle.std.proofs.lemmas.Bool.Decides.{nat_tests}
-use Rattle.std.proofs.lemmas.List.Elements.{All-tail}
-use Rattle.std.proofs.lemmas.List.Folds.{list_any_none}
-use Rattle.std.proofs.lemmas.List.Sorted.{IsNonDecreasingBy-from_all_adjacent, list_any-IsPermutation}
-use Rattle.std.specs.Ordering.{is_le, is_some_and, nat_cmp}
-use Rattle.range_list.specs.Rangelist.{IsRun}
-use Rattle.range_list.specs.declared.run.Run.{Run}
 use Rattle.merge_info.specs.Clash.{IsRisingByFirst}
-use Rattle.merge_info.specs.Line.{clashes, has_clash}
 
 -- ---- lists of runs
 

@@ -1,9 +1,6 @@
 -- Results that are collected from a list, until one is missing.
-use Rattle.std.proofs.Common.{◌≡◌, ℕ, ◌+◌, ◌<◌, List, [], ◌∷◌, ◌++◌, Option, Some, None, All, length, get_or, drop, map, refl, sym, ap, ◌∙◌}
-use Rattle.std.specs.Prelude.{option_map}
-use Rattle.std.proofs.lemmas.List.{append-nil, append_assoc, drop_more}
-use Rattle.std.proofs.lemmas.List.Elements.{All-nil, All-push}
-use Rattle.merge_info.specs.Line.{all_of}
+use Rattle.merge_info.proofs.Common.{◌≡◌, ℕ, ◌+◌, ◌<◌, List, [], ◌∷◌, ◌++◌, Option, Some, None, All, length, get_or, drop, map, refl, sym, ap, ◌∙◌, option_map, append_assoc, drop_more, All-nil, All-push, all_of}
+use Rattle.std.proofs.lemmas.List.{append-nil}
 
 -- what a loop over a list has left where it comes to an element
 pub drop-next : {X : Type 0} (xs : List X) (n : ℕ) (x : X) → (n < length xs) × (x ≡ get_or xs n x) → drop n xs ≡ x ∷ drop (n + 1) xs

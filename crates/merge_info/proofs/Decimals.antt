@@ -1,17 +1,11 @@
 -- Printed numbers, as they are read again.
-use Rattle.std.proofs.Common.{◌≡◌, ℕ, ◌+◌, ◌-◌, ◌*◌, ◌^◌, ◌<◌, ◌≤◌, true, false, List}
-use Rattle.std.proofs.Common.{fold, decimal, refl, arith, rules}
+use Rattle.merge_info.proofs.Common.{◌≡◌, ℕ, ◌+◌, ◌-◌, ◌*◌, ◌^◌, ◌<◌, ◌≤◌, true, false, List, fold, decimal, refl, arith, rules, list_all, le-leb, ne_eqb, Lacks, revision_of, Lacks-digits}
 use Rattle.std.specs.Prelude.{Some}
-use Rattle.std.specs.List.{list_all}
-use Rattle.std.proofs.lemmas.Bool.{le-leb, ne_eqb}
 use Rattle.std.proofs.lemmas.Fmt.{decimal_nonempty, digits_decimal, digits_value-decimal}
 use Rattle.std.proofs.lemmas.Str.Parse.{IsNumeralModel, numerals_by_fold}
-use Rattle.svn_text.specs.Cut.{Lacks}
 use Rattle.svn_text.specs.Number.{is_digit, number_of, value_of_digits}
 use Rattle.svn_text.specs.Number.{greatest_revision}
-use Rattle.merge_info.specs.Element.{revision_of}
 use Rattle.merge_info.proofs.Elements.{is_not_empty-some}
-use Rattle.svn_text.proofs.Lines.{Lacks-digits}
 
 abbrev AreDigits : List ℕ → Type 0
 AreDigits bytes = list_all is_digit bytes ≡ true

@@ -1,9 +1,5 @@
 -- What holds of each element of a list.
-use Rattle.std.proofs.Common.{◌≡◌, ℕ, ◌<◌, Bool, false, List, All, length, get_or, map, sym, subst, arith}
-use Rattle.std.proofs.lemmas.Bool.{both_ways, false_from_ne_true}
-use Rattle.std.proofs.lemmas.List.{get_or-map, length-map}
-use Rattle.std.proofs.lemmas.List.Folds.{list_any_at}
-use Rattle.std.specs.List.{list_any}
+use Rattle.merge_info.proofs.Common.{◌≡◌, ℕ, ◌<◌, Bool, false, List, All, length, get_or, map, sym, subst, arith, both_ways, false_from_ne_true, get_or-map, length-map, list_any_at, list_any}
 
 module _ {X Y : Type 0} (P : Y → Type 0) (f : X → Y) (xs : List X) (all : All P (map f xs)) where
   pub All-from_map : All (λ x. P (f x)) xs

@@ -1,16 +1,7 @@
 -- The elements of a rangelist, from where their bytes were cut, and the blanks before them.
-use Rattle.std.proofs.Common.{◌≡◌, ℕ, ◌<◌, ◌≤◌, ◌==◌, nat_lt, if◌then◌else◌, unwrap_or, not, ◌&&◌, Bool, true, false, List, [], ◌∷◌, Option, Some, None, length, map, refl, sym, arith}
-use Rattle.std.specs.Prelude.{option_map}
-use Rattle.std.specs.List.{position_or_len, prefix_len, slice_split}
-use Rattle.std.proofs.lemmas.Bool.{cond-false, eqb-true, false≢true}
-use Rattle.std.proofs.lemmas.Bool.Decides.{nat_tests}
+use Rattle.merge_info.proofs.Common.{◌≡◌, ℕ, ◌<◌, ◌≤◌, ◌==◌, nat_lt, unwrap_or, not, ◌&&◌, Bool, true, false, List, [], ◌∷◌, Option, Some, None, length, map, refl, sym, arith, option_map, position_or_len, prefix_len, slice_split, cond-false, eqb-true, false≢true, nat_tests, is_not_empty, IsCutAt, Lacks, list_any-Lacks, Run, element_of, revision_of, run_of, all_of, elements_of, is_blank, is_comma}
+use Rattle.std.proofs.Common.{if◌then◌else◌}
 use Rattle.std.proofs.lemmas.List.Sums.{prefix_len-le-length}
-use Rattle.svn_text.specs.Bytes.{is_not_empty}
-use Rattle.svn_text.specs.Cut.{IsCutAt, Lacks}
-use Rattle.svn_text.proofs.Lines.{list_any-Lacks}
-use Rattle.range_list.specs.declared.run.Run.{Run}
-use Rattle.merge_info.specs.Element.{element_of, revision_of, run_of}
-use Rattle.merge_info.specs.Line.{all_of, elements_of, is_blank, is_comma}
 
 -- the run of one number
 abbrev pub run_at : Bool → ℕ → Run

@@ -1,17 +1,5 @@
 -- The search for the entry of a path.
-use Rattle.std.proofs.Common.{◌≡◌, ◌≢◌, ℕ, Bool, true, false, List, [], ◌∷◌, Ordering, ◌<◌, length, get_or, map, inl, inr, None, Some, bytes_eq, refl, sym, ap, subst, ◌∙◌, arith}
-use Rattle.std.proofs.lemmas.Bool.{both_ways, cases_lt, cases_order, false_from_ne_true}
-use Rattle.std.proofs.lemmas.Cmp.{nat_list_cmp_total}
-use Rattle.std.proofs.lemmas.List.{get_or-map, length-map}
-use Rattle.std.proofs.lemmas.List.Elements.{All-map}
-use Rattle.std.proofs.lemmas.Slice.Eq.{bytes_eq-Decides}
-use Rattle.std.specs.Cmp.Lexicographic.{lists_agrees, slice_cmp, slice_partial_cmp}
-use Rattle.std.specs.List.Sorted.{IsPartitionPoint, IsPartitionedBy}
-use Rattle.std.specs.Ordering.{nat_cmp, is_lt, is_some_and}
-use Rattle.std.specs.declared.cmp.Ordering.TheVariants.{Less}
-use Rattle.range_list.specs.declared.run.Run.{Run}
-use Rattle.merge_info.specs.Value.{AreRising, IsEntry, IsMergeInfo, entry_view, ranges_of, some_runs}
-use Rattle.merge_info.specs.declared.entry.Entry.{Entry}
+use Rattle.merge_info.proofs.Common.{◌≡◌, ◌≢◌, ℕ, Bool, true, false, List, [], ◌∷◌, Ordering, ◌<◌, length, get_or, map, inl, inr, None, Some, bytes_eq, refl, sym, ap, subst, ◌∙◌, arith, both_ways, cases_lt, cases_order, false_from_ne_true, nat_list_cmp_total, get_or-map, length-map, All-map, bytes_eq-Decides, lists_agrees, slice_cmp, slice_partial_cmp, IsPartitionPoint, IsPartitionedBy, nat_cmp, is_lt, is_some_and, Less, Run, AreRising, IsEntry, IsMergeInfo, entry_view, ranges_of, some_runs, Entry}
 use Rattle.merge_info.proofs.Each.{All-from_map_at}
 use Rattle.merge_info.proofs.Rising.{AreRising-at, bytes_eq-before, runs_at-line}
 use Rattle.merge_info.proofs.RunsAt.{runs_at-none}

@@ -1,19 +1,7 @@
 -- The entries that a path inherits of a value whose paths keep their order.
-use Rattle.std.proofs.Common.{◌≡◌, ℕ, ◌+◌, ◌<◌, cond, List, [], ◌∷◌, ◌++◌, filter, take, get_or, length, map, refl, arith}
-use Rattle.std.specs.List.{list_any}
-use Rattle.std.proofs.lemmas.Grind.{common_steps}
-use Rattle.std.proofs.lemmas.List.Elements.{All-map}
-use Rattle.range_list.specs.Rangelist.{IsCanonical, inheritable_runs}
-use Rattle.range_list.specs.declared.run.Run.{Run}
-use Rattle.range_list.proofs.Canonical.{IsCanonical-filter}
-use Rattle.merge_info.specs.CanonicalValue.{has_runs, inherited_value, is_some_run}
-use Rattle.merge_info.specs.Inherited.{inherited_line, inherited_lines}
-use Rattle.merge_info.specs.Line.{IsPrintedPath, Line}
-use Rattle.merge_info.specs.Value.{entry_view, AreRising, IsMergeInfo, MergeInfoValue, runs_at}
-use Rattle.merge_info.specs.declared.entry.Entry.{Entry}
+use Rattle.merge_info.proofs.Common.{◌≡◌, ℕ, ◌+◌, ◌<◌, cond, List, [], ◌∷◌, ◌++◌, filter, take, get_or, length, map, refl, arith, list_any, common_steps, All-map, IsCanonical, inheritable_runs, Run, IsCanonical-filter, has_runs, inherited_value, is_some_run, inherited_line, inherited_lines, IsPrintedPath, Line, entry_view, AreRising, IsMergeInfo, MergeInfoValue, runs_at, Entry, HasSameNumbers-refl}
 use Rattle.merge_info.proofs.CanonicalValues.{IsMergeInfo-filter, canonical_value-only, runs_at-filter}
 use Rattle.merge_info.proofs.Inheriting.{AreLines-inherited}
-use Rattle.range_list.proofs.Same.{HasSameNumbers-refl}
 
 -- ---- what is inherited
 

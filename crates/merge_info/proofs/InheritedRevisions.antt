@@ -1,21 +1,6 @@
 -- What a path inherits, source path by source path.
-use Rattle.std.proofs.Common.{◌≡◌, ℕ, true, false, cond, List, [], ◌∷◌, ◌++◌, Some, None, All, bytes_eq, get_or, refl, arith, sym, ap, ◌∙◌}
-use Rattle.std.proofs.lemmas.Grind.{common_steps}
-use Rattle.std.proofs.lemmas.Bool.{false_from_ne_true}
+use Rattle.merge_info.proofs.Common.{◌≡◌, ℕ, true, false, cond, List, [], ◌∷◌, ◌++◌, Some, None, All, bytes_eq, get_or, refl, arith, sym, ap, ◌∙◌, common_steps, false_from_ne_true, bytes_eq-Decides, append_cancel_right, All-append, All-head, All-map, All-tail, IsComponent, parts_of, path_text, parts_of-path_text, inheritability_of, inheritable_runs, Run, IsInheritablePart-filter, is_inheritable-out, inherited_value, inherited_line, inherited_lines, inherited_revision, path_below, IsPrintedPath, Line, IsEntry, IsMergeInfo, MergeInfoValue, runs_at}
 use Rattle.std.specs.Cmp.{both_ways}
-use Rattle.std.proofs.lemmas.Slice.Eq.{bytes_eq-Decides}
-use Rattle.std.proofs.lemmas.List.{append_cancel_right}
-use Rattle.std.proofs.lemmas.List.Elements.{All-append, All-head, All-map, All-tail}
-use Rattle.svn_path.specs.Components.{IsComponent, parts_of, path_text}
-use Rattle.svn_path.proofs.Components.{parts_of-path_text}
-use Rattle.range_list.specs.Rangelist.{inheritability_of, inheritable_runs}
-use Rattle.range_list.specs.declared.run.Run.{Run}
-use Rattle.range_list.proofs.Canonical.{IsInheritablePart-filter}
-use Rattle.range_list.proofs.Maximal.{is_inheritable-out}
-use Rattle.merge_info.specs.CanonicalValue.{inherited_value}
-use Rattle.merge_info.specs.Inherited.{inherited_line, inherited_lines, inherited_revision, path_below}
-use Rattle.merge_info.specs.Line.{IsPrintedPath, Line}
-use Rattle.merge_info.specs.Value.{IsEntry, IsMergeInfo, MergeInfoValue, runs_at}
 use Rattle.merge_info.proofs.CanonicalValues.{HasSameRevisions-canonical_value}
 use Rattle.merge_info.proofs.Inheriting.{AreLines-inherited, components-printed}
 use Rattle.merge_info.proofs.PrintedPaths.{IsPrintedPath-path_text}

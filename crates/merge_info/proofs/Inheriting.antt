@@ -1,16 +1,6 @@
 -- The lines that a path inherits are lines.
-use Rattle.std.proofs.Common.{ℕ, List, ◌++◌, All, get_or}
-use Rattle.std.proofs.lemmas.List.Elements.{All-append, All-filter, All-map}
-use Rattle.std.proofs.lemmas.List.Folds.{list_any_none}
-use Rattle.range_list.specs.Rangelist.{IsRun}
-use Rattle.range_list.specs.declared.run.Run.{Run}
-use Rattle.svn_path.specs.Components.{IsComponent, is_dot, parts_of}
-use Rattle.range_list.proofs.Canonical.{AreRuns-from_canonical}
-use Rattle.svn_path.proofs.Components.{components-parts_of}
+use Rattle.merge_info.proofs.Common.{ℕ, List, ◌++◌, All, get_or, All-append, All-filter, All-map, list_any_none, IsRun, Run, IsComponent, is_dot, parts_of, AreRuns-from_canonical, components-parts_of, inherited_line, inherited_lines, path_below, IsLine, IsPrintedPath, Line, IsEntry}
 use Rattle.merge_info.proofs.PrintedPaths.{IsPrintedPath-path_text}
-use Rattle.merge_info.specs.Inherited.{inherited_line, inherited_lines, path_below}
-use Rattle.merge_info.specs.Line.{IsLine, IsPrintedPath, Line}
-use Rattle.merge_info.specs.Value.{IsEntry}
 
 -- the parts of a printed path
 pub components-printed : (path : List ℕ) → IsPrintedPath path → All IsComponent (parts_of path)

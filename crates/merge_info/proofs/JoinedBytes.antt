@@ -1,16 +1,9 @@
 -- Bytes that are joined, and cut again where they were joined.
-use Rattle.std.proofs.Common.{◌≡◌, ℕ, ◌<◌, ◌==◌, true, false, List, [], ◌∷◌, ◌++◌, length, get_or, map, All}
-use Rattle.std.proofs.Common.{refl, ap, ◌∙◌, arith, eq-eqb}
+use Rattle.merge_info.proofs.Common.{◌≡◌, ℕ, ◌<◌, ◌==◌, true, false, List, [], ◌∷◌, ◌++◌, length, get_or, map, All, refl, ap, ◌∙◌, arith, eq-eqb, list_any, before_first, after_first, position_or_len, join_with_byte, slice_split, common_steps, get_or_append_left, length-append, take_at, All-append, All-cons, All-head, All-nil, All-tail, Lacks, all_of}
 use Rattle.std.specs.Prelude.{Option, Some}
-use Rattle.std.specs.List.{list_any, before_first, after_first, position_or_len, join_with_byte, slice_split}
-use Rattle.std.proofs.lemmas.Grind.{common_steps}
-use Rattle.std.proofs.lemmas.List.{get_or_append_left, length-append, take_at}
-use Rattle.std.proofs.lemmas.List.Elements.{All-append, All-cons, All-head, All-nil, All-tail}
 use Rattle.std.proofs.lemmas.List.Splits.{slice_split_at, slice_split_none}
 use Rattle.std.proofs.lemmas.List.Sums.{position_or_len_is}
 use Rattle.std.proofs.Math.Seq.{drop-append-add}
-use Rattle.svn_text.specs.Cut.{Lacks}
-use Rattle.merge_info.specs.Line.{all_of}
 
 -- ---- bytes that lack one
 

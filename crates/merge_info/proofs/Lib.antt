@@ -1,3 +1,4 @@
+mod Common
 mod CanonicalEntries
 mod CanonicalRuns
 mod CanonicalValues

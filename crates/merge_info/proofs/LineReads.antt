@@ -1,15 +1,6 @@
 -- What a line says, by the cut at its last colon.
-use Rattle.std.proofs.Common.{◌≡◌, ℕ, List, Some, None, refl, ap, ◌∙◌}
-use Rattle.std.specs.Prelude.{option_and_then}
-use Rattle.std.proofs.lemmas.Bool.{false_from_ne_true}
-use Rattle.range_list.specs.declared.run.Run.{Run}
-use Rattle.svn_text.specs.Cut.{IsCutAtLast, Lacks}
-use Rattle.svn_text.proofs.Cuts.{list_any-cut, before_last-cut, after_last-cut}
-use Rattle.svn_text.proofs.Lines.{list_any-Lacks}
-use Rattle.svn_path.proofs.Components.{components-parts_of}
+use Rattle.merge_info.proofs.Common.{◌≡◌, ℕ, List, Some, None, refl, ap, ◌∙◌, option_and_then, false_from_ne_true, Run, IsCutAtLast, Lacks, list_any-cut, before_last-cut, after_last-cut, list_any-Lacks, components-parts_of, HasDot, parts_of, path_text, IsPrintedPath, elements_of, line_from, line_of, without_blanks}
 use Rattle.merge_info.proofs.PrintedPaths.{IsPrintedPath-path_text}
-use Rattle.svn_path.specs.Components.{HasDot, parts_of, path_text}
-use Rattle.merge_info.specs.Line.{IsPrintedPath, elements_of, line_from, line_of, without_blanks}
 
 -- a line without a colon is malformed
 pub line_of-uncut : (bytes : List ℕ) → Lacks 58 bytes → line_of bytes ≡ None

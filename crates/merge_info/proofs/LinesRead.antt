@@ -1,11 +1,6 @@
 -- What a text says before one of its lines is read.
-use Rattle.std.proofs.Common.{◌≡◌, ℕ, ◌==◌, true, false, List, [], ◌∷◌, Some, length, refl, sym, eqb-true, arith}
-use Rattle.std.proofs.lemmas.Bool.{false≢true}
-use Rattle.std.specs.Io.BufRead.{strip_last}
-use Rattle.std.specs.List.{slice_split}
-use Rattle.svn_text.specs.Line.{is_newline}
-use Rattle.merge_info.specs.Line.{IsLine, line_of}
-use Rattle.merge_info.specs.Value.{lines_of}
+use Rattle.merge_info.proofs.Common.{◌≡◌, ℕ, ◌==◌, true, false, List, [], ◌∷◌, Some, length, refl, sym, arith, false≢true, strip_last, slice_split, is_newline, IsLine, line_of, lines_of}
+use Rattle.std.proofs.Common.{eqb-true}
 use Rattle.merge_info.proofs.Collected.{AreCollected, AreCollected-none}
 
 -- a text without a line

@@ -1,19 +1,7 @@
 -- No newline stands in the paths of a value that was read from a text.
-use Rattle.std.proofs.Common.{◌≡◌, ℕ, Bool, true, false, IfSome, List, [], ◌∷◌, Option, Some, None, All, inl, inr, get_or, map, refl, subst}
-use Rattle.std.specs.Prelude.{bytes_eq, if◌then◌else◌, option_and_then, option_map}
-use Rattle.std.proofs.lemmas.Bool.{cases_Bool}
-use Rattle.std.proofs.lemmas.List.Elements.{All-nil, All-cons, All-head, All-tail, All-append, All-filter, All-take}
-use Rattle.std.proofs.lemmas.List.Folds.{Any-from_list_any}
-use Rattle.std.proofs.lemmas.Slice.Eq.{bytes_eq-Decides}
-use Rattle.std.specs.Io.BufRead.{strip_last}
-use Rattle.std.specs.List.{after_last, before_last, list_any, onto_first, slice_split}
-use Rattle.svn_path.specs.Components.{is_dot, is_slash, parts_of, parts_text, path_text}
-use Rattle.svn_text.specs.Bytes.{is_colon, is_not_empty}
+use Rattle.merge_info.proofs.Common.{◌≡◌, ℕ, Bool, true, false, IfSome, List, [], ◌∷◌, Option, Some, None, All, inl, inr, get_or, map, refl, subst, if◌then◌else◌, option_and_then, option_map, cases_Bool, All-nil, All-cons, All-head, All-tail, All-append, All-filter, All-take, Any-from_list_any, bytes_eq-Decides, strip_last, after_last, before_last, list_any, onto_first, slice_split, is_dot, is_slash, parts_of, parts_text, path_text, is_colon, is_not_empty, Run, Line, all_of, elements_of, has_clash, line_from, line_of, without_blanks, is_newline, HasSameRevisions, IsEntry, IsMergeInfo, IsOnOneLine, lines_between, lines_of, text_lines}
+use Rattle.std.specs.Prelude.{bytes_eq}
 use Rattle.range_list.proofs.Only.{only_canonical}
-use Rattle.range_list.specs.declared.run.Run.{Run}
-use Rattle.merge_info.specs.Line.{Line, all_of, elements_of, has_clash, line_from, line_of, without_blanks}
-use Rattle.svn_text.specs.Line.{is_newline}
-use Rattle.merge_info.specs.Value.{HasSameRevisions, IsEntry, IsMergeInfo, IsOnOneLine, lines_between, lines_of, text_lines}
 use Rattle.merge_info.proofs.Each.{All-from_list_any}
 use Rattle.merge_info.proofs.Rising.{runs_at-line}
 use Rattle.merge_info.proofs.RunsAt.{runs_at-none}

@@ -1,20 +1,10 @@
 -- Two values that give each path the same revisions are equal.
-use Rattle.std.proofs.Common.{◌≡◌, List, [], ◌∷◌, All, inl, inr, refl, ap, ap₂, subst, ◌∙◌, arith}
+use Rattle.merge_info.proofs.Common.{◌≡◌, List, [], ◌∷◌, All, inl, inr, refl, ap, ap₂, subst, ◌∙◌, arith, slice_cmp, nat_cmp, ordering_reverse, Less, Equal, Greater, cases_Bool, nat_list_cmp_total, All-nil, All-tail, bytes_eq-Decides, HasSameNumbers-refl, HasSameNumbers-sym, Line, AreRising, HasSameRevisions, IsEntry, IsMergeInfo, IsOnlyMergeInfo, runs_at}
 use Rattle.std.specs.Prelude.{bytes_eq}
-use Rattle.std.specs.Cmp.Lexicographic.{slice_cmp}
-use Rattle.std.specs.Ordering.{nat_cmp, ordering_reverse}
 use Rattle.std.specs.declared.cmp.Ordering.{Ordering}
-use Rattle.std.specs.declared.cmp.Ordering.TheVariants.{Less, Equal, Greater}
-use Rattle.std.proofs.lemmas.Bool.{cases_Bool}
-use Rattle.std.proofs.lemmas.Cmp.{nat_list_cmp_total}
-use Rattle.std.proofs.lemmas.List.Elements.{All-nil, All-tail}
 use Rattle.std.proofs.lemmas.Map.Lookups.{exact_bytes}
-use Rattle.std.proofs.lemmas.Slice.Eq.{bytes_eq-Decides}
 use Rattle.range_list.proofs.Only.{only_canonical}
-use Rattle.range_list.proofs.Same.{HasSameNumbers-refl, HasSameNumbers-sym}
 use Rattle.merge_info.proofs.Rising.{AreRising-first, AreRising-tail, IsPathBefore, runs_at-before, runs_at-first}
-use Rattle.merge_info.specs.Line.{Line}
-use Rattle.merge_info.specs.Value.{AreRising, HasSameRevisions, IsEntry, IsMergeInfo, IsOnlyMergeInfo, runs_at}
 
 HasSameRevisions-sym : (a b : List Line) → HasSameRevisions a b → HasSameRevisions b a
 HasSameRevisions-sym a b same path = HasSameNumbers-sym _ _ (same path)

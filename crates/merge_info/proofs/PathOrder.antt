@@ -1,20 +1,7 @@
 -- Paths that are in the same order whatever follows them.
-use Rattle.std.proofs.Common.{◌≡◌, ◌≢◌, ℕ, suc, ◌==◌, Bool, true, false, List, [], ◌∷◌, ◌++◌, All, length, map, inl, inr, refl, sym, ap, ◌∙◌, add-one, arith}
+use Rattle.merge_info.proofs.Common.{◌≡◌, ◌≢◌, ℕ, suc, ◌==◌, Bool, true, false, List, [], ◌∷◌, ◌++◌, All, length, map, inl, inr, refl, sym, ap, ◌∙◌, add-one, arith, slice_cmp, AllAdjacentBelow, IsAllAdjacentAnswer, nat_cmp, Less, Equal, and_parts, both_ways, cases_Bool, eqb-true, ltb-true, not-true, common_steps, All-head, All-tail, bytes_eq-Decides, parts_of, parts_text, path_text, KeepTheirOrder, inherited_lines, is_before_below, path_below, stays_before, IsPrintedPath, AreRising, IsEntry, entry_view, Entry}
 use Rattle.std.specs.Bool.{OnTrue}
-use Rattle.std.specs.Cmp.Lexicographic.{slice_cmp}
-use Rattle.std.specs.List.{AllAdjacentBelow, IsAllAdjacentAnswer}
-use Rattle.std.specs.Ordering.{nat_cmp}
-use Rattle.std.specs.declared.cmp.Ordering.TheVariants.{Less, Equal}
-use Rattle.std.proofs.lemmas.Bool.{and_parts, both_ways, cases_Bool, eqb-true, ltb-true, not-true}
-use Rattle.std.proofs.lemmas.Grind.{common_steps}
-use Rattle.std.proofs.lemmas.List.Elements.{All-head, All-tail}
-use Rattle.std.proofs.lemmas.Slice.Eq.{bytes_eq-Decides}
 use Rattle.std.specs.Cmp.{nat_cmp_is}
-use Rattle.svn_path.specs.Components.{parts_of, parts_text, path_text}
-use Rattle.merge_info.specs.Inherited.{KeepTheirOrder, inherited_lines, is_before_below, path_below, stays_before}
-use Rattle.merge_info.specs.Line.{IsPrintedPath}
-use Rattle.merge_info.specs.Value.{AreRising, IsEntry, entry_view}
-use Rattle.merge_info.specs.declared.entry.Entry.{Entry}
 
 -- ---- what follows a path
 

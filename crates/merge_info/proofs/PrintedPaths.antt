@@ -1,9 +1,5 @@
 -- Printed paths.
-use Rattle.std.proofs.Common.{◌≡◌, ℕ, List, All, ap, sym, subst, false}
-use Rattle.std.proofs.lemmas.List.Elements.{All-weaker}
-use Rattle.svn_path.proofs.Components.{parts_of-path_text}
-use Rattle.svn_path.specs.Components.{IsComponent, is_dot, parts_of, path_text}
-use Rattle.merge_info.specs.Line.{IsPrintedPath}
+use Rattle.merge_info.proofs.Common.{◌≡◌, ℕ, List, All, ap, sym, subst, false, All-weaker, parts_of-path_text, IsComponent, is_dot, parts_of, path_text, IsPrintedPath}
 
 -- what is printed of components is a printed path
 pub IsPrintedPath-path_text : (parts : List (List ℕ)) → All IsComponent parts → IsPrintedPath (path_text parts)

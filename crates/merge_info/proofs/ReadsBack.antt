@@ -1,24 +1,8 @@
 -- The text of a value, as it is read again.
-use Rattle.std.proofs.Common.{◌≡◌, ◌≢◌, ℕ, ◌<◌, List, [], ◌∷◌, ◌++◌, length, get_or, map, All}
-use Rattle.std.proofs.Common.{refl, arith}
+use Rattle.merge_info.proofs.Common.{◌≡◌, ◌≢◌, ℕ, ◌<◌, List, [], ◌∷◌, ◌++◌, length, get_or, map, All, refl, arith, strip_last, join_with_byte, slice_split, common_steps, append_assoc, All-map, list_any_none, is_dot, parts_of, is_newline, Lacks, after_last-whole, before_last-whole, IsCanonical, Run, IsPrintedPath, Line, line_from, line_of, printed_entry, value_text, IsEntry, IsMergeInfo, IsOnOneLine, lines_between, lines_of, text_lines, AreRuns-from_canonical}
 use Rattle.std.specs.Prelude.{Some}
-use Rattle.std.specs.Io.BufRead.{strip_last}
-use Rattle.std.specs.List.{join_with_byte, slice_split}
-use Rattle.std.proofs.lemmas.Grind.{common_steps}
-use Rattle.std.proofs.lemmas.List.{append-nil, append_assoc}
-use Rattle.std.proofs.lemmas.List.Elements.{All-map}
-use Rattle.std.proofs.lemmas.List.Folds.{list_any_none}
-use Rattle.svn_path.specs.Components.{is_dot, parts_of}
-use Rattle.svn_text.specs.Line.{is_newline}
-use Rattle.svn_text.specs.Cut.{Lacks}
-use Rattle.svn_text.proofs.Cuts.{after_last-whole, before_last-whole}
-use Rattle.range_list.specs.Rangelist.{IsCanonical}
+use Rattle.std.proofs.lemmas.List.{append-nil}
 use Rattle.range_list.specs.Text.{rangelist_text}
-use Rattle.range_list.specs.declared.run.Run.{Run}
-use Rattle.merge_info.specs.Line.{IsPrintedPath, Line, line_from, line_of}
-use Rattle.merge_info.specs.Text.{printed_entry, value_text}
-use Rattle.merge_info.specs.Value.{IsEntry, IsMergeInfo, IsOnOneLine, lines_between, lines_of, text_lines}
-use Rattle.range_list.proofs.Canonical.{AreRuns-from_canonical}
 use Rattle.merge_info.proofs.CanonicalRuns.{has_clash-canonical}
 use Rattle.merge_info.proofs.JoinedBytes.{Lacks-append, Lacks-cons, Lacks-nil, all_of-map, length-join, list_any-whole, slice_split-join}
 use Rattle.merge_info.proofs.RunTexts.{Lacks-rangelist_text, elements_of-rangelist_text, without_blanks-rangelist_text}

@@ -1,14 +1,6 @@
 -- Lines whose paths rise.
-use Rattle.std.proofs.Common.{◌≡◌, ℕ, zero, suc, ◌<◌, Bool, false, List, [], ◌∷◌, All, length, get_or, filter, bytes_eq, sym, ap, ◌∙◌, append-nil, inl, inr, arith}
-use Rattle.std.proofs.lemmas.Bool.{cases_Bool}
-use Rattle.std.proofs.lemmas.Cmp.{nat_list_cmp_total, nat_list_eq_equiv}
-use Rattle.std.proofs.lemmas.List.Elements.{All-cons, All-filter, All-nil, All-weaker}
+use Rattle.merge_info.proofs.Common.{◌≡◌, ℕ, zero, suc, ◌<◌, Bool, false, List, [], ◌∷◌, All, length, get_or, filter, bytes_eq, sym, ap, ◌∙◌, append-nil, inl, inr, arith, cases_Bool, nat_list_cmp_total, nat_list_eq_equiv, All-cons, All-filter, All-nil, All-weaker, slice_cmp, is_eq, nat_cmp, Less, Line, AreRising, IsBefore, runs_at}
 use Rattle.std.proofs.lemmas.Map.Text.{is_eq-slice_cmp}
-use Rattle.std.specs.Cmp.Lexicographic.{slice_cmp}
-use Rattle.std.specs.Ordering.{is_eq, nat_cmp}
-use Rattle.std.specs.declared.cmp.Ordering.TheVariants.{Less}
-use Rattle.merge_info.specs.Line.{Line}
-use Rattle.merge_info.specs.Value.{AreRising, IsBefore, runs_at}
 use Rattle.merge_info.proofs.RunsAt.{runs_at-none}
 
 abbrev pub IsPathBefore : List ℕ → Line → Type 0

@@ -1,21 +1,11 @@
 -- Printed rangelists, as they are read again.
-use Rattle.std.proofs.Common.{◌≡◌, ◌≢◌, ℕ, ◌<◌, ◌≤◌, ◌==◌, Bool, false, List, [], ◌∷◌, ◌++◌, length, get_or}
-use Rattle.std.proofs.Common.{map, All, decimal, inl, inr, refl, sym, ap, ◌∙◌, arith}
+use Rattle.merge_info.proofs.Common.{◌≡◌, ◌≢◌, ℕ, ◌<◌, ◌≤◌, ◌==◌, Bool, false, List, [], ◌∷◌, ◌++◌, length, get_or, map, All, decimal, inl, inr, refl, sym, ap, ◌∙◌, arith, cases_Bool, eqb-false, eqb-true, lt-ltb, ne_eqb, or_from, common_steps, append_assoc, All-head, All-map, list_any_none, Lacks, IsRun, Run, element_of, is_dash, run_of, elements_of, is_blank, without_blanks}
 use Rattle.std.specs.Prelude.{Some}
-use Rattle.std.proofs.lemmas.Bool.{cases_Bool, eqb-false, eqb-true, lt-ltb, ne_eqb, or_from}
 use Rattle.std.proofs.lemmas.Fmt.{decimal_nonempty}
-use Rattle.std.proofs.lemmas.Grind.{common_steps}
-use Rattle.std.proofs.lemmas.List.{append-nil, append_assoc}
-use Rattle.std.proofs.lemmas.List.Elements.{All-head, All-map}
-use Rattle.std.proofs.lemmas.List.Folds.{list_any_none}
-use Rattle.svn_text.specs.Cut.{Lacks}
+use Rattle.std.proofs.lemmas.List.{append-nil}
 use Rattle.svn_text.specs.Number.{is_digit}
-use Rattle.range_list.specs.Rangelist.{IsRun}
 use Rattle.svn_text.specs.Number.{greatest_revision}
 use Rattle.range_list.specs.Text.{range_text, rangelist_text, run_text}
-use Rattle.range_list.specs.declared.run.Run.{Run}
-use Rattle.merge_info.specs.Element.{element_of, is_dash, run_of}
-use Rattle.merge_info.specs.Line.{elements_of, is_blank, without_blanks}
 use Rattle.merge_info.proofs.Decimals.{Lacks-decimal, revision_of-decimal}
 use Rattle.merge_info.proofs.Elements.{element_of-no_star, elements_of-some}
 use Rattle.merge_info.proofs.JoinedBytes.{Lacks-append, Lacks-cons, Lacks-join, Lacks-nil, after_first-whole, all_of-map}

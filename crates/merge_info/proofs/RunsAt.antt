@@ -1,9 +1,5 @@
 -- The runs that lines give a path.
-use Rattle.std.proofs.Common.{◌≡◌, ℕ, false, cond, List, [], ◌∷◌, ◌++◌, All, bytes_eq, refl, arith, suc}
-use Rattle.std.proofs.lemmas.Grind.{common_steps}
-use Rattle.range_list.specs.declared.run.Run.{Run}
-use Rattle.merge_info.specs.Line.{Line}
-use Rattle.merge_info.specs.Value.{runs_at}
+use Rattle.merge_info.proofs.Common.{◌≡◌, ℕ, false, cond, List, [], ◌∷◌, ◌++◌, All, bytes_eq, refl, arith, suc, common_steps, Run, Line, runs_at}
 
 -- the runs that one line gives a path
 abbrev pub runs_of : Line → List ℕ → List Run

@@ -1,25 +1,12 @@
 -- The map from paths to runs as lines, and what a line put into it makes of them.
-use Rattle.std.proofs.Common.{◌≡◌, true, arith, ℕ, Bool, false, IfSome, List, [], ◌∷◌, ◌++◌, Option, None, Some, All, map, bytes_eq, refl, sym, ap, subst, ◌∙◌, inl, inr, append-nil, Ordering}
-use Rattle.std.proofs.lemmas.Bool.{cases_Bool}
-use Rattle.std.proofs.lemmas.Cmp.{eq_by_cmp_equiv, nat_list_cmp_total, nat_list_eq_equiv}
-use Rattle.std.proofs.lemmas.Grind.{common_steps}
-use Rattle.std.proofs.lemmas.List.Elements.{All-append, All-map}
+use Rattle.merge_info.proofs.Common.{◌≡◌, true, arith, ℕ, Bool, false, IfSome, List, [], ◌∷◌, ◌++◌, Option, None, Some, All, map, bytes_eq, refl, sym, ap, subst, ◌∙◌, inl, inr, append-nil, Ordering, cases_Bool, eq_by_cmp_equiv, nat_list_cmp_total, nat_list_eq_equiv, common_steps, All-append, All-map, bytes_eq-Decides, slice_cmp, IsStrictlySortedBy, nat_cmp, IsRun, Run, IsLine, IsPrintedPath, Line, AddsLine, RunsByPath, lines_in, AreRising, runs_at}
 use Rattle.std.proofs.lemmas.Map.Keys.{sorted_head, sorted_tail}
 use Rattle.std.proofs.lemmas.Map.Text.{is_eq-slice_cmp}
 use Rattle.std.proofs.lemmas.Map.Views.{All-keys-insert_entry, All-values-insert_entry, All-values-set_value, IfSome-lookup_from_All}
-use Rattle.std.proofs.lemmas.Slice.Eq.{bytes_eq-Decides}
 use Rattle.std.specs.BTreeMap.{get_by, is_at, insert_entry, IsOrdered, UpdatesBy, WritesThrough}
-use Rattle.std.specs.Cmp.Lexicographic.{slice_cmp}
 use Rattle.std.specs.Global.{Vec}
-use Rattle.std.specs.List.Sorted.{IsStrictlySortedBy}
 use Rattle.std.specs.Map.{KeepsOthers, keys_of, values_of, lookup}
 use Rattle.std.specs.Option.{is_some}
-use Rattle.std.specs.Ordering.{nat_cmp}
-use Rattle.range_list.specs.Rangelist.{IsRun}
-use Rattle.range_list.specs.declared.run.Run.{Run}
-use Rattle.merge_info.specs.Line.{IsLine, IsPrintedPath, Line}
-use Rattle.merge_info.specs.RunsByPath.{AddsLine, RunsByPath, lines_in}
-use Rattle.merge_info.specs.Value.{AreRising, runs_at}
 use Rattle.merge_info.proofs.Each.{All-from_map}
 use Rattle.merge_info.proofs.Rising.{AreRising-first, AreRising-tail, runs_at-before}
 use Rattle.merge_info.proofs.RunsAt.{runs_at-push}

@@ -1,13 +1,5 @@
 -- A path came from itself in the revision before exactly where it stood there at the same path.
-use Rattle.std.proofs.Common.{◌≡◌, ℕ, suc, ◌+◌, ◌==◌, Bool, true, List, Option, None, Some, refl, sym, ap, ◌∙◌, arith, true≢false}
-use Rattle.std.proofs.lemmas.Bool.{eqb-true, and_parts, and_from, eq-eqb}
-use Rattle.svn_path.specs.Below.{same_path}
-use Rattle.svn_path.proofs.Belows.{IsSame, IsSame-same_path, same_path-is}
-use Rattle.svn_dump.specs.Location.{origin_of, location}
-use Rattle.svn_dump.specs.Tree.{Tree}
-use Rattle.svn_dump.proofs.Locations.{location_here, location_at_origin, origin_stays}
-use Rattle.svn_dump.proofs.Origins.{OriginsFall}
-use Rattle.path_index.specs.Operative.{came_from_itself}
+use Rattle.path_index.proofs.Common.{◌≡◌, ℕ, suc, ◌+◌, ◌==◌, Bool, true, List, Option, None, Some, refl, sym, ap, ◌∙◌, arith, true≢false, eqb-true, and_parts, and_from, eq-eqb, same_path, IsSame, IsSame-same_path, same_path-is, origin_of, location, Tree, location_here, location_at_origin, origin_stays, OriginsFall, came_from_itself}
 
 module _ {C M : Type 0} (same : C → C → Bool) (trees : List (Tree C M)) (fall : OriginsFall same trees) (is : IsSame same) where
   pub came-from_location : (path : List C) (rev : ℕ) → location same trees path (suc rev) rev ≡ Some path

@@ -1,11 +1,7 @@
 -- Each child stands once, so where it stands is where it is found.
-use Rattle.std.proofs.Common.{◌≡◌, ℕ, suc, true, false, List, get_or, Some, option_map, slice_get, sym, ap, subst, ◌∙◌, arith}
+use Rattle.path_index.proofs.Common.{◌≡◌, ℕ, suc, true, false, List, get_or, Some, option_map, slice_get, sym, ap, subst, ◌∙◌, arith, get_or_from_slice_get, slice_get_within, IsDistinct, same_child, child_of, Child}
 use Rattle.std.proofs.lemmas.Grind.{common_steps}
 use Rattle.std.proofs.lemmas.Map.Keys.{apart_from_distinct}
-use Rattle.std.proofs.lemmas.Option.{get_or_from_slice_get, slice_get_within}
-use Rattle.std.specs.List.{IsDistinct}
-use Rattle.path_index.specs.Nodes.{same_child, child_of}
-use Rattle.path_index.specs.declared.nodes.Child.{Child}
 use Rattle.path_index.proofs.NodesOfPaths.{child_of-at, position-is}
 
 same_child-self : (a : Child) → same_child a a ≡ true

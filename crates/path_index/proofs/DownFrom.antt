@@ -1,6 +1,5 @@
 -- Numbers downwards that pass a test.
-use Rattle.std.proofs.Common.{◌≡◌, ℕ, zero, suc, pred, ◌+◌, ◌<◌, ◌≤◌, Bool, false, [], filter, refl, ◌∙◌, arith}
-use Rattle.path_index.specs.Operative.{down_from}
+use Rattle.path_index.proofs.Common.{◌≡◌, ℕ, zero, suc, pred, ◌+◌, ◌<◌, ◌≤◌, Bool, false, [], filter, refl, ◌∙◌, arith, down_from}
 
 -- two tests that agree at each of the numbers keep the same
 pub filter_down-same : (p q : ℕ → Bool) (n top : ℕ) → n ≤ top + 1 → ((k : ℕ) → k ≤ top → top < k + n → p k ≡ q k)

@@ -1,24 +1,5 @@
 -- The numbers of the nodes of paths, as paths and records are added.
-use Rattle.std.proofs.Common.{◌≡◌, ℕ, zero, suc, ◌+◌, ◌-◌, ◌^◌, ◌<◌, ◌≤◌, ◌==◌, true, ◌⊎◌, List, [], ◌∷◌, ◌++◌, filter, length, take, drop, slice_get, None, Some, inl, inr, refl, sym, ap, ◌∙◌, append_assoc, append-nil, arith, length-append, true≢false}
-use Rattle.smallvec.specs.SmallVec.{SmallVec}
-use Rattle.std.proofs.lemmas.Bool.{cases_Bool, cases_lt, false_from_ne_true, eq-eqb, eqb-true, or_right}
-use Rattle.std.proofs.lemmas.List.{take_at, take-append-drop}
-use Rattle.std.proofs.lemmas.Option.{none-some, same_Some, slice_get_within}
-use Rattle.svn_path.specs.Below.{is_below}
-use Rattle.svn_path.specs.Path.{same_name}
-use Rattle.svn_path.specs.declared.names.NameId.{NameId}
-use Rattle.svn_path.proofs.Belows.{IsSame-same_name, is_below-append}
-use Rattle.svn_dump.specs.declared.record.Act.{Act}
-use Rattle.svn_dump.specs.declared.record.NodeRecord.{NodeRecord}
-use Rattle.path_index.specs.NamedRevisions.{is_named_in, named_revisions}
-use Rattle.path_index.specs.Nodes.{node_of, ExtendsNodes}
-use Rattle.path_index.specs.Numbers.{has_number, AddsNumbers, ArePair, HasNumber, HaveSameNumbers}
-use Rattle.path_index.specs.Operative.{down_from}
-use Rattle.path_index.specs.RecordEffect.{SetsPath}
-use Rattle.path_index.specs.RecordsByPath.{IsEntryOf, HasEntryOf, AreEntriesOf, AddsEntries, IsOfSome, AddsPath, CopiesPath, IsFrontAt, NamesPath, AreListed, AreByPath, SetsAt}
-use Rattle.path_index.specs.declared.nodes.Child.{Child}
-use Rattle.path_index.specs.declared.records_by_path.RecordsByPath.{RecordsByPath}
-use Rattle.svn_dump.proofs.Lists.{slice_get-first, slice_get-before}
+use Rattle.path_index.proofs.Common.{◌≡◌, ℕ, zero, suc, ◌+◌, ◌-◌, ◌^◌, ◌<◌, ◌≤◌, ◌==◌, true, ◌⊎◌, List, [], ◌∷◌, ◌++◌, filter, length, take, drop, slice_get, None, Some, inl, inr, refl, sym, ap, ◌∙◌, append_assoc, append-nil, arith, length-append, true≢false, SmallVec, cases_Bool, cases_lt, false_from_ne_true, eq-eqb, eqb-true, or_right, take_at, take-append-drop, none-some, same_Some, slice_get_within, is_below, same_name, NameId, IsSame-same_name, is_below-append, Act, NodeRecord, is_named_in, named_revisions, node_of, ExtendsNodes, has_number, AddsNumbers, ArePair, HasNumber, HaveSameNumbers, down_from, SetsPath, IsEntryOf, HasEntryOf, AreEntriesOf, AddsEntries, IsOfSome, AddsPath, CopiesPath, IsFrontAt, NamesPath, AreListed, AreByPath, SetsAt, Child, RecordsByPath, slice_get-first, slice_get-before}
 use Rattle.path_index.proofs.DownFrom.{filter_down-same, filter_down-none}
 use Rattle.path_index.proofs.NodesOfPaths.{node_of-grown, node_of-one}
 use Rattle.path_index.proofs.NumbersOfNodes.{has_number-HasNumber, HasNumber-has_number}

@@ -1,20 +1,9 @@
 -- The history of a dump's records, revision by revision, and the trees of a history's first revisions.
-use Rattle.std.proofs.Common.{◌≡◌, ℕ, zero, suc, ◌+◌, ◌-◌, ◌<◌, ◌≤◌, ◌==◌, nat_lt, Bool, true, false, not, ◌&&◌, ◌||◌, if◌then◌else◌, List, [], ◌∷◌, ◌++◌, Option, None, Some, All, map, filter, take, drop, length, get_or, replicate, refl, sym, ap, subst, ◌∙◌, append-nil, arith}
+use Rattle.path_index.proofs.Common.{◌≡◌, ℕ, zero, suc, ◌+◌, ◌-◌, ◌<◌, ◌≤◌, ◌==◌, nat_lt, Bool, true, false, not, ◌&&◌, ◌||◌, if◌then◌else◌, List, [], ◌∷◌, ◌++◌, Option, None, Some, All, map, filter, take, drop, length, get_or, replicate, refl, sym, ap, subst, ◌∙◌, append-nil, arith, eq-eqb, ne_eqb, length-map, length-replicate, get_or-map, get_or-take, take-append-drop, take_at, drop_at, take-map, drop-map, take_more, All-nil, All-cons, All-append, All-replicate, All-head, All-tail, filter-append, DumpValue, record_view, records_by_revision, revisions_from, history_view, History, location, Tree, trees_of, NodeRecord, AreRising, records_of, history_to, names_below, came_from_itself, is_operative, operative_in, operative_from, operative_of, hit_at, Segment, same_location, with_location, segments_up_to, segments_of}
 use Rattle.std.specs.Prelude.{AllPairs}
-use Rattle.std.proofs.lemmas.Bool.{eq-eqb, ne_eqb}
-use Rattle.std.proofs.lemmas.List.{length-map, length-replicate, get_or-map, get_or-take, take-append-drop, take_at, drop_at, take-map, drop-map, take_more}
-use Rattle.std.proofs.lemmas.List.Elements.{All-nil, All-cons, All-append, All-replicate, All-head, All-tail, filter-append}
 use Rattle.std.proofs.lemmas.List.Kept.{AllPairs-cons}
-use Rattle.svn_dump.specs.Dump.{DumpValue, record_view, records_by_revision, revisions_from, history_view}
-use Rattle.svn_dump.specs.History.{History}
-use Rattle.svn_dump.specs.Location.{location}
-use Rattle.svn_dump.specs.Tree.{Tree, trees_of}
-use Rattle.svn_dump.specs.declared.record.NodeRecord.{NodeRecord}
 use Rattle.svn_dump.proofs.FirstRevisions.{is_there-take, location-take, origin_of-take}
 use Rattle.svn_dump.proofs.Grouped.{length-records_by_revision, map-records_by_revision}
-use Rattle.path_index.specs.History.{AreRising, records_of, history_to}
-use Rattle.path_index.specs.Operative.{names_below, came_from_itself, is_operative, operative_in, operative_from, operative_of, hit_at}
-use Rattle.path_index.specs.Segment.{Segment, same_location, with_location, segments_up_to, segments_of}
 use Rattle.path_index.proofs.Rising.{filter_all, filter_none}
 use Rattle.path_index.proofs.DownFrom.{filter_down-same}
 

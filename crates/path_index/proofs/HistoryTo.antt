@@ -1,10 +1,5 @@
 -- The history up to a revision.
-use Rattle.std.proofs.Common.{◌≡◌, ℕ, zero, suc, ◌+◌, ◌≤◌, List, [], ◌∷◌, inl, inr, length, refl, sym, ap, ◌∙◌, arith}
-use Rattle.std.proofs.lemmas.Bool.{cases_order}
-use Rattle.std.proofs.lemmas.List.{get_or_append_left, get_or_push, length_push}
-use Rattle.svn_dump.specs.declared.record.NodeRecord.{NodeRecord}
-use Rattle.path_index.specs.History.{history_to, records_of}
-use Rattle.path_index.specs.Operative.{records_in}
+use Rattle.path_index.proofs.Common.{◌≡◌, ℕ, zero, suc, ◌+◌, ◌≤◌, List, [], ◌∷◌, inl, inr, length, refl, sym, ap, ◌∙◌, arith, cases_order, get_or_append_left, get_or_push, length_push, NodeRecord, history_to, records_of, records_in}
 
 -- it has this revision and those before
 pub length-history_to : (records : List NodeRecord) (rev : ℕ) → length (history_to records rev) ≡ rev + 1

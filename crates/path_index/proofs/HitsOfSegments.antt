@@ -1,11 +1,5 @@
 -- The hits of segments, one segment after another.
-use Rattle.std.proofs.Common.{◌≡◌, ℕ, ◌+◌, List, ◌∷◌, ◌++◌, Bool, Option, drop, filter, length, sym, ap, ◌∙◌, append_assoc, append-nil, arith}
-use Rattle.std.proofs.lemmas.List.{drop_all}
-use Rattle.std.proofs.lemmas.List.Elements.{filter-append}
-use Rattle.svn_path.specs.declared.names.NameId.{NameId}
-use Rattle.svn_dump.specs.declared.record.NodeRecord.{NodeRecord}
-use Rattle.path_index.specs.declared.segment.Hit.{Hit}
-use Rattle.path_index.specs.Segment.{Segment}
+use Rattle.path_index.proofs.Common.{◌≡◌, ℕ, ◌+◌, List, ◌∷◌, ◌++◌, Bool, Option, drop, filter, length, sym, ap, ◌∙◌, append_assoc, append-nil, arith, drop_all, filter-append, NameId, NodeRecord, Hit, Segment}
 use Rattle.path_index.proofs.Operative.{hits_in, hits_from}
 
 module _ (passes : Hit → Bool) (records : List NodeRecord) (segments : List (Segment NameId)) where

@@ -1,16 +1,5 @@
 -- The records of two neighbouring parts of a history by their paths.
-use Rattle.std.proofs.Common.{◌≡◌, ℕ, ◌+◌, ◌-◌, ◌^◌, ◌<◌, ◌≤◌, ◌⊎◌, List, ◌++◌, length, get_or, inl, inr, refl, ◌∙◌, arith, length-append}
-use Rattle.smallvec.specs.SmallVec.{SmallVec}
-use Rattle.std.proofs.lemmas.Bool.{cases_lt}
-use Rattle.std.proofs.lemmas.Option.{slice_get-get_or}
-use Rattle.svn_path.specs.declared.names.NameId.{NameId}
-use Rattle.svn_dump.specs.declared.record.NodeRecord.{NodeRecord}
-use Rattle.path_index.specs.Nodes.{AreNodesOf, ExtendsNodes}
-use Rattle.path_index.specs.Numbers.{AddsNumbers, FitShifted, IsMoved}
-use Rattle.path_index.specs.RecordsByPath.{AddsPath, AreByPath, AreEntriesOf, CopiesPath, IsOfSome, NamesPath}
-use Rattle.path_index.specs.declared.nodes.Child.{Child}
-use Rattle.path_index.specs.declared.records_by_path.RecordsByPath.{RecordsByPath}
-use Rattle.svn_dump.proofs.Lists.{slice_get-first, slice_get-second, slice_get-before, slice_get-after}
+use Rattle.path_index.proofs.Common.{◌≡◌, ℕ, ◌+◌, ◌-◌, ◌^◌, ◌<◌, ◌≤◌, ◌⊎◌, List, ◌++◌, length, get_or, inl, inr, refl, ◌∙◌, arith, length-append, SmallVec, cases_lt, slice_get-get_or, NameId, NodeRecord, AreNodesOf, ExtendsNodes, AddsNumbers, FitShifted, IsMoved, AddsPath, AreByPath, AreEntriesOf, CopiesPath, IsOfSome, NamesPath, Child, RecordsByPath, slice_get-first, slice_get-second, slice_get-before, slice_get-after}
 use Rattle.path_index.proofs.EntriesOfPaths.{HasEntryOf-more, IsEntryOf-weaker}
 use Rattle.path_index.proofs.NodesOfPaths.{node_of-within}
 

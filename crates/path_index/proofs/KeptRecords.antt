@@ -1,22 +1,7 @@
 -- What is kept of records, as records are added.
-use Rattle.std.proofs.Common.{◌≡◌, ◌≢◌, ℕ, ◌+◌, ◌-◌, ◌<◌, ◌≤◌, Bool, true, false, leb, ltb, List, [], ◌∷◌, ◌++◌, length, get_or, slice_get, map, drop, Some, inl, inr, refl, sym, ap, subst, ◌∙◌, arith, length-append, append-nil}
-use Rattle.std.specs.List.Sorted.{IsNonDecreasing, IsNonDecreasingBy, IsPartitionPoint}
-use Rattle.std.proofs.lemmas.Bool.{cases_lt, ltb-true, ltb-false}
-use Rattle.std.proofs.lemmas.List.{get_or_append_left, get_or-append-add, length-map, get_or-map, map-append}
-use Rattle.std.proofs.lemmas.List.Elements.{All-append, All-map, All-weaker, All-nil, All-cons}
-use Rattle.std.proofs.lemmas.Option.{none-some, same_Some, slice_get_within}
-use Rattle.svn_path.specs.Path.{same_name}
-use Rattle.svn_path.specs.declared.names.NameId.{NameId}
-use Rattle.svn_dump.specs.declared.record.Act.{Act}
+use Rattle.path_index.proofs.Common.{◌≡◌, ◌≢◌, ℕ, ◌+◌, ◌-◌, ◌<◌, ◌≤◌, Bool, true, false, leb, ltb, List, [], ◌∷◌, ◌++◌, length, get_or, slice_get, map, drop, Some, inl, inr, refl, sym, ap, subst, ◌∙◌, arith, length-append, append-nil, IsNonDecreasing, IsNonDecreasingBy, IsPartitionPoint, cases_lt, ltb-true, ltb-false, get_or_append_left, get_or-append-add, length-map, get_or-map, map-append, All-append, All-map, All-weaker, All-nil, All-cons, none-some, same_Some, slice_get_within, same_name, NameId, Act, NodeRecord, record_view, AreRising, IsCopy, SetsOrigin, SetsPath, moved_by, AreCopies, AreKept, revs_of, CopiesFrom, IsCopied, Copied, slice_get-first, slice_get-second, slice_get-before, slice_get-after, slice_get-push, AllPairs-append}
 use Rattle.svn_dump.specs.declared.record.Act.TheVariants as act
 use Rattle.svn_dump.specs.declared.record.Mi.{Mi}
-use Rattle.svn_dump.specs.declared.record.NodeRecord.{NodeRecord}
-use Rattle.svn_dump.specs.Dump.{record_view}
-use Rattle.path_index.specs.History.{AreRising}
-use Rattle.path_index.specs.RecordEffect.{IsCopy, SetsOrigin, SetsPath}
-use Rattle.path_index.specs.Records.{moved_by, AreCopies, AreKept, revs_of, CopiesFrom, IsCopied}
-use Rattle.path_index.specs.declared.copied.Copied.{Copied}
-use Rattle.svn_dump.proofs.Lists.{slice_get-first, slice_get-second, slice_get-before, slice_get-after, slice_get-push, AllPairs-append}
 use Rattle.path_index.proofs.Rising.{IsNonDecreasingBy-AllPairs}
 use Rattle.path_index.proofs.RecordEffects.{SetsOrigin-Copy, below_from_copy}
 

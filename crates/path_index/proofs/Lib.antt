@@ -1,3 +1,4 @@
+mod Common
 mod CameFromItself
 mod ChildrenDistinct
 mod DownFrom

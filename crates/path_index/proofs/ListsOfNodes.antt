@@ -1,14 +1,6 @@
 -- Lists of numbers of nodes, as numbers are inserted.
-use Rattle.std.proofs.Common.{◌≡◌, ◌≢◌, ℕ, zero, suc, map, ◌+◌, ◌-◌, ◌<◌, ◌≤◌, ◌⊎◌, List, [], ◌∷◌, ◌++◌, ltb, true, false, set, length, get_or, slice_get, Some, inl, inr, refl, sym, ap, subst, ◌∙◌, arith}
-use Rattle.smallvec.specs.SmallVec.{SmallVec}
-use Rattle.std.specs.List.{insert}
-use Rattle.std.specs.List.Sorted.{IsPartitionPoint}
-use Rattle.std.proofs.lemmas.Bool.{cases_eq, cases_lt, ltb-false, ltb-true}
-use Rattle.std.proofs.lemmas.List.{get_or-set_same, get_or-set_other, length-set}
+use Rattle.path_index.proofs.Common.{◌≡◌, ◌≢◌, ℕ, zero, suc, map, ◌+◌, ◌-◌, ◌<◌, ◌≤◌, ◌⊎◌, List, [], ◌∷◌, ◌++◌, ltb, true, false, set, length, get_or, slice_get, Some, inl, inr, refl, sym, ap, subst, ◌∙◌, arith, SmallVec, insert, IsPartitionPoint, cases_eq, cases_lt, ltb-false, ltb-true, get_or-set_same, get_or-set_other, length-set, Contains-append_left, Contains-push, Contains-push_cases, same_Some, slice_get-get_or, slice_get_past, numbers_in, numbers_of, AddsNumbers, AreAllRising, ArePair, HaveSameNumbers, IsMoved, IsFirstNotBelow, IsRising, IsShifted, IsWith}
 use Rattle.std.proofs.lemmas.List.Edits.{length-insert, get_or-insert_at, get_or-insert_below, get_or-insert_above}
-use Rattle.std.proofs.lemmas.List.Elements.{Contains-append_left, Contains-push, Contains-push_cases}
-use Rattle.std.proofs.lemmas.Option.{same_Some, slice_get-get_or, slice_get_past}
-use Rattle.path_index.specs.Numbers.{numbers_in, numbers_of, AddsNumbers, AreAllRising, ArePair, HaveSameNumbers, IsMoved, IsFirstNotBelow, IsRising, IsShifted, IsWith}
 use Rattle.path_index.proofs.NumbersOfNodes.{IsNonDecreasing-rising}
 
 -- ---- the numbers of one node

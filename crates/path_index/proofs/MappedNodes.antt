@@ -1,12 +1,5 @@
 -- The nodes of one tree as they are added to another.
-use Rattle.std.proofs.Common.{◌≡◌, ℕ, ◌+◌, ◌<◌, ◌≤◌, List, [], ◌∷◌, ◌++◌, All, length, get_or, slice_get, Some, length-append, inl, inr, refl, sym, ap, ◌∙◌, arith}
-use Rattle.std.proofs.lemmas.Bool.{cases_lt}
-use Rattle.std.proofs.lemmas.List.{length_push, get_or_push, get_or_append_left}
-use Rattle.std.proofs.lemmas.List.Elements.{All-push, All-weaker}
-use Rattle.std.proofs.lemmas.Option.{get_or_from_slice_get, slice_get-get_or}
-use Rattle.svn_path.specs.declared.names.NameId.{NameId}
-use Rattle.path_index.specs.Nodes.{child_of, node_of, AreNodesOf, HaveParentsBefore, ExtendsNodes}
-use Rattle.path_index.specs.declared.nodes.Child.{Child}
+use Rattle.path_index.proofs.Common.{◌≡◌, ℕ, ◌+◌, ◌<◌, ◌≤◌, List, [], ◌∷◌, ◌++◌, All, length, get_or, slice_get, Some, length-append, inl, inr, refl, sym, ap, ◌∙◌, arith, cases_lt, length_push, get_or_push, get_or_append_left, All-push, All-weaker, get_or_from_slice_get, slice_get-get_or, NameId, child_of, node_of, AreNodesOf, HaveParentsBefore, ExtendsNodes, Child}
 use Rattle.path_index.proofs.NodesOfPaths.{child_of-at, child_of-within, node_of-last, node_of_push, node_of-grown, node_of-one, node_of-within}
 
 -- the first so many children, and the root, are mapped to nodes of their paths

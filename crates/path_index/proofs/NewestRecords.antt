@@ -1,12 +1,5 @@
 -- The newest of the records that set the origin of a path, found along the paths above it.
-use Rattle.std.proofs.Common.{◌≡◌, ℕ, ◌+◌, ◌<◌, ◌≤◌, ◌⊎◌, List, length, take, Option, None, Some, inl, inr, refl, sym, ap, ◌∙◌, arith}
-use Rattle.std.proofs.lemmas.Bool.{cases_lt}
-use Rattle.std.proofs.lemmas.List.{take_all}
-use Rattle.svn_path.specs.declared.names.NameId.{NameId}
-use Rattle.path_index.specs.Nodes.{node_of}
-use Rattle.path_index.specs.Numbers.{newer_of, HasNumber, IsNewestBelow}
-use Rattle.path_index.specs.RecordsByPath.{HasEntryOf, SetsAt}
-use Rattle.path_index.specs.declared.records_by_path.RecordsByPath.{RecordsByPath}
+use Rattle.path_index.proofs.Common.{◌≡◌, ℕ, ◌+◌, ◌<◌, ◌≤◌, ◌⊎◌, List, length, take, Option, None, Some, inl, inr, refl, sym, ap, ◌∙◌, arith, cases_lt, take_all, NameId, node_of, newer_of, HasNumber, IsNewestBelow, HasEntryOf, SetsAt, RecordsByPath}
 use Rattle.path_index.proofs.EntriesOfPaths.{HasNumber-HasEntryOf}
 use Rattle.path_index.proofs.NodesOfPaths.{node_of-take_none}
 use Rattle.path_index.proofs.NumbersOfNodes.{IsNewestBelow-newer, IsNewestBelow-same}

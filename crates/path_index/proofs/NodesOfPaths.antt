@@ -1,19 +1,8 @@
 -- The nodes of paths: each is the node of one path, and stays as more are added.
-use Rattle.std.proofs.Common.{◌≡◌, ℕ, zero, suc, ◌+◌, ◌<◌, ◌≤◌, ◌==◌, Bool, true, false, List, [], ◌∷◌, ◌++◌, length, get_or, take, drop, Option, None, Some, IsSome, option_map, ◌⊎◌, inl, inr, refl, sym, ap, subst, ◌∙◌, arith, length-append}
+use Rattle.path_index.proofs.Common.{◌≡◌, ℕ, zero, suc, ◌+◌, ◌<◌, ◌≤◌, ◌==◌, Bool, true, false, List, [], ◌∷◌, ◌++◌, length, get_or, take, drop, Option, None, Some, IsSome, option_map, ◌⊎◌, inl, inr, refl, sym, ap, subst, ◌∙◌, arith, length-append, option_and_then, list_any, position, position_or_len, and_parts, eqb-true, cases_Bool, cond-true, cond-false, lt-ltb, take_more, take-append-drop, take-take, length_push, get_or_append_left, same_Some, option_and_then_some, same_name, NameId, IsSame-same_name, same_child, child_of, node_below, node_of, ExtendsNodes, HaveParentsBefore, Child, slice_get-push}
 use Rattle.indexmap.specs.IndexSet.{insert_key}
-use Rattle.std.specs.Option.{option_and_then}
-use Rattle.std.specs.List.{list_any, position, position_or_len}
-use Rattle.std.proofs.lemmas.Bool.{and_parts, eqb-true, cases_Bool, cond-true, cond-false, lt-ltb}
-use Rattle.std.proofs.lemmas.List.{take_more, take-append-drop, take-take, length_push, get_or_append_left}
 use Rattle.std.proofs.lemmas.List.Folds.{list_any_at}
 use Rattle.std.proofs.lemmas.List.Quantifiers.{position-Some}
-use Rattle.std.proofs.lemmas.Option.{same_Some, option_and_then_some}
-use Rattle.svn_path.specs.Path.{same_name}
-use Rattle.svn_path.specs.declared.names.NameId.{NameId}
-use Rattle.svn_path.proofs.Belows.{IsSame-same_name}
-use Rattle.path_index.specs.Nodes.{same_child, child_of, node_below, node_of, ExtendsNodes, HaveParentsBefore}
-use Rattle.path_index.specs.declared.nodes.Child.{Child}
-use Rattle.svn_dump.proofs.Lists.{slice_get-push}
 use Rattle.std.proofs.lemmas.List.Sums.{position_or_len_is}
 
 -- ---- one component

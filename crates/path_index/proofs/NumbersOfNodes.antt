@@ -1,16 +1,7 @@
 -- The numbers of a node, in rising order.
-use Rattle.std.proofs.Common.{◌≡◌, leb, ℕ, zero, suc, pred, ◌+◌, ◌-◌, ◌<◌, ◌≤◌, max, Bool, true, false, ◌⊎◌, List, [], ◌∷◌, ◌++◌, Contains, map, filter, slice_get, length, get_or, take, Option, None, Some, inl, inr, refl, sym, ap, subst, ◌∙◌, append_assoc, append-nil, arith}
-use Rattle.smallvec.specs.SmallVec.{SmallVec}
-use Rattle.std.specs.List.Sorted.{IsPartitionPoint, IsNonDecreasing}
-use Rattle.std.proofs.lemmas.Bool.{cases_lt, false_from_ne_true, eqb-true, leb-true, leb-false}
-use Rattle.std.proofs.lemmas.List.Elements.{All-contains, Contains-append_left, Contains-push, Contains-push_cases}
+use Rattle.path_index.proofs.Common.{◌≡◌, leb, ℕ, zero, suc, pred, ◌+◌, ◌-◌, ◌<◌, ◌≤◌, max, Bool, true, false, ◌⊎◌, List, [], ◌∷◌, ◌++◌, Contains, map, filter, slice_get, length, get_or, take, Option, None, Some, inl, inr, refl, sym, ap, subst, ◌∙◌, append_assoc, append-nil, arith, SmallVec, IsPartitionPoint, IsNonDecreasing, cases_lt, false_from_ne_true, eqb-true, leb-true, leb-false, All-contains, Contains-append_left, Contains-push, Contains-push_cases, length_push, get_or_push, get_or_append_left, length-take-le, get_or-take, get_or_default, get_or_from_slice_get, slice_get-get_or, slice_get_within, has_number, newer_of, numbers_of, HasNumber, IsNewestBelow, IsRising, IsFrontUpTo, down_from, hit_at, Hit}
 use Rattle.std.proofs.lemmas.Cmp.{nat_eq_equiv}
 use Rattle.std.proofs.lemmas.Map.Views.{list_any-from_Contains, Contains-from_any}
-use Rattle.std.proofs.lemmas.List.{length_push, get_or_push, get_or_append_left, length-take-le, get_or-take, get_or_default}
-use Rattle.std.proofs.lemmas.Option.{get_or_from_slice_get, slice_get-get_or, slice_get_within}
-use Rattle.path_index.specs.Numbers.{has_number, newer_of, numbers_of, HasNumber, IsNewestBelow, IsRising, IsFrontUpTo}
-use Rattle.path_index.specs.Operative.{down_from, hit_at}
-use Rattle.path_index.specs.declared.segment.Hit.{Hit}
 use Rattle.path_index.proofs.DownFrom.{filter_down-none}
 use Rattle.path_index.proofs.Rising.{IsNonDecreasingBy-AllPairs}
 

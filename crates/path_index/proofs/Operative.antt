@@ -1,28 +1,10 @@
 -- The operative revisions of a path's segments, by the records that name the path.
-use Rattle.std.proofs.Common.{◌≡◌, ℕ, zero, suc, pred, ◌+◌, ◌-◌, ◌<◌, ◌≤◌, nat_lt, Bool, true, false, not, ◌&&◌, ◌||◌, List, [], ◌∷◌, ◌++◌, Option, None, Some, map, filter, refl, sym, ap, ◌∙◌, arith}
-use Rattle.std.proofs.lemmas.Bool.{false_from_ne_true, lt-ltb, or_right}
+use Rattle.path_index.proofs.Common.{◌≡◌, ℕ, zero, suc, pred, ◌+◌, ◌-◌, ◌<◌, ◌≤◌, nat_lt, Bool, true, false, not, ◌&&◌, ◌||◌, List, [], ◌∷◌, ◌++◌, Option, None, Some, map, filter, refl, sym, ap, ◌∙◌, arith, false_from_ne_true, lt-ltb, or_right, filter-append, same_name, NameId, IsSame, IsSame-same_name, History, origin_of, location, Tree, is_there, tree_of, NodeRecord, ValueId, location_is_there, location_through, OriginsFall, OriginsAreThere, OriginsFall-trees_of, OriginsAreThere-trees_of, history_to, records_of, trees_to, names_below, came_from_itself, records_in, is_operative, down_from, operative_in, operative_from, operative_of, hit_at, Hit, AreSegments, IsSegment, Segment, segments_of, IsThere, first_revision, is_named_in, named_revisions}
 use Rattle.std.proofs.Math.Bool.{or-false}
-use Rattle.std.proofs.lemmas.List.Elements.{filter-append}
-use Rattle.svn_path.specs.Path.{same_name}
-use Rattle.svn_path.specs.declared.names.NameId.{NameId}
-use Rattle.svn_path.proofs.Belows.{IsSame, IsSame-same_name}
-use Rattle.svn_dump.specs.History.{History}
-use Rattle.svn_dump.specs.Location.{origin_of, location}
-use Rattle.svn_dump.specs.Tree.{Tree, is_there, tree_of}
-use Rattle.svn_dump.specs.declared.record.NodeRecord.{NodeRecord}
-use Rattle.svn_dump.specs.declared.record.ValueId.{ValueId}
-use Rattle.svn_dump.proofs.Locations.{location_is_there, location_through}
-use Rattle.svn_dump.proofs.Origins.{OriginsFall, OriginsAreThere, OriginsFall-trees_of, OriginsAreThere-trees_of}
-use Rattle.path_index.specs.History.{history_to, records_of, trees_to}
-use Rattle.path_index.specs.Operative.{names_below, came_from_itself, records_in, is_operative, down_from, operative_in, operative_from, operative_of, hit_at}
-use Rattle.path_index.specs.declared.segment.Hit.{Hit}
-use Rattle.path_index.specs.Segment.{AreSegments, IsSegment, Segment, segments_of}
-use Rattle.path_index.specs.Index.{IsThere}
 use Rattle.path_index.proofs.HistoryTo.{records_in-history_to}
 use Rattle.path_index.proofs.CameFromItself.{came-from_location, location-from_came}
 use Rattle.path_index.proofs.Segments.{AreSegments-segments_of}
 use Rattle.path_index.proofs.DownFrom.{filter_down-same}
-use Rattle.path_index.specs.NamedRevisions.{first_revision, is_named_in, named_revisions}
 
 -- one number more, at the end
 down_from_more : (n top : ℕ) → down_from (suc n) top ≡ down_from n top ++ (top - n) ∷ []

@@ -1,13 +1,5 @@
 -- The places to which a table of nodes leads, and the numbers there.
-use Rattle.std.proofs.Common.{◌≡◌, ℕ, zero, suc, ◌<◌, ◌++◌, List, [], ◌∷◌, length, set, get_or, slice_get, Option, None, Some, inl, inr, refl, sym, ap, ◌∙◌, arith}
-use Rattle.smallvec.specs.SmallVec.{SmallVec}
-use Rattle.std.specs.Option.{unwrap_or}
-use Rattle.std.proofs.lemmas.Bool.{cases_eq}
-use Rattle.std.proofs.lemmas.List.{get_or_push, get_or-set_same, get_or-set_other, length_push}
-use Rattle.std.proofs.lemmas.Option.{same_Some, slice_get-get_or, slice_get_within}
-use Rattle.svn_dump.proofs.Lists.{slice_get-first}
-use Rattle.path_index.specs.Numbers.{numbers_in, numbers_of, AddsNumbers, HaveSameNumbers, KeepOthers}
-use Rattle.path_index.specs.SparseNumbers.{lists_by_node, no_list, place_of, HaveNoneElsewhere, IsPlaceOf, KeepPlaces, LeadBack}
+use Rattle.path_index.proofs.Common.{◌≡◌, ℕ, zero, suc, ◌<◌, ◌++◌, List, [], ◌∷◌, length, set, get_or, slice_get, Option, None, Some, inl, inr, refl, sym, ap, ◌∙◌, arith, SmallVec, unwrap_or, cases_eq, get_or_push, get_or-set_same, get_or-set_other, length_push, same_Some, slice_get-get_or, slice_get_within, slice_get-first, numbers_in, numbers_of, AddsNumbers, HaveSameNumbers, KeepOthers, lists_by_node, no_list, place_of, HaveNoneElsewhere, IsPlaceOf, KeepPlaces, LeadBack}
 
 -- ---- the table
 

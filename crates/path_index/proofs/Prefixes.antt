@@ -1,19 +1,8 @@
 -- The trees of the records up to a revision, and those of fewer records that have the same revisions up to it.
-use Rattle.std.proofs.Common.{◌≡◌, ◌≢◌, ℕ, zero, suc, ◌+◌, ◌<◌, ◌≤◌, ◌==◌, if◌then◌else◌, List, [], ◌∷◌, ◌++◌, All, filter, map, length, ◌-◌, refl, sym, ap, ◌∙◌, arith, inl, inr}
-use Rattle.std.proofs.lemmas.Bool.{cases_lt, cond_both, eq-eqb, eqb-true}
-use Rattle.std.proofs.lemmas.List.{map-append}
-use Rattle.std.proofs.lemmas.List.Elements.{All-nil, All-cons, All-head, All-tail, All-weaker, filter-append}
-use Rattle.svn_path.specs.Path.{same_name}
-use Rattle.svn_path.specs.declared.names.NameId.{NameId}
-use Rattle.svn_dump.specs.Dump.{record_view}
-use Rattle.svn_dump.specs.History.{Record}
-use Rattle.svn_dump.specs.Tree.{Tree, tree_of, end_tree, start_tree, tree_from_revision, first_tree}
-use Rattle.svn_dump.specs.declared.record.NodeRecord.{NodeRecord}
-use Rattle.svn_dump.specs.declared.record.ValueId.{ValueId}
+use Rattle.path_index.proofs.Common.{◌≡◌, ◌≢◌, ℕ, zero, suc, ◌+◌, ◌<◌, ◌≤◌, ◌==◌, if◌then◌else◌, List, [], ◌∷◌, ◌++◌, All, filter, map, length, ◌-◌, refl, sym, ap, ◌∙◌, arith, inl, inr, cases_lt, cond_both, eq-eqb, eqb-true, map-append, All-nil, All-cons, All-head, All-tail, All-weaker, filter-append, same_name, NameId, record_view, Record, Tree, tree_of, end_tree, start_tree, tree_from_revision, first_tree, NodeRecord, ValueId, records_of, history_to, trees_to}
 use Rattle.svn_dump.proofs.Revisions.{tree_of-append, trees_of-nil, trees_of_push, tree_of_push, length-trees_of, opening_last, start_tree-nil}
 use Rattle.path_index.proofs.Rising.{records_of-others}
 use Rattle.path_index.proofs.HistoryTo.{length-history_to}
-use Rattle.path_index.specs.History.{records_of, history_to, trees_to}
 
 -- ---- revisions of one list of records
 

@@ -1,15 +1,5 @@
 -- The numbers of a range among numbers downwards.
-use Rattle.std.proofs.Common.{◌≡◌, ℕ, zero, suc, ◌-◌, ◌≤◌, max, min, nat_le, nat_lt, Bool, true, false, ◌&&◌, List, [], ◌∷◌, ◌++◌, None, Some, Option, filter, map, if◌then◌else◌, refl, sym, ap, ap₂, ◌∙◌, append_assoc, arith}
-use Rattle.std.specs.Option.{unwrap_or}
-use Rattle.std.proofs.lemmas.Bool.{leb-true, leb-false}
-use Rattle.std.proofs.lemmas.List.{map-append}
-use Rattle.std.proofs.lemmas.List.Elements.{filter-append}
-use Rattle.svn_path.specs.declared.names.NameId.{NameId}
-use Rattle.svn_dump.specs.declared.record.NodeRecord.{NodeRecord}
-use Rattle.path_index.specs.NamedRevisions.{first_revision, is_named_in, named_revisions}
-use Rattle.path_index.specs.Operative.{down_from, hit_at}
-use Rattle.path_index.specs.Range.{is_in_range}
-use Rattle.path_index.specs.declared.segment.Hit.{Hit}
+use Rattle.path_index.proofs.Common.{◌≡◌, ℕ, zero, suc, ◌-◌, ◌≤◌, max, min, nat_le, nat_lt, Bool, true, false, ◌&&◌, List, [], ◌∷◌, ◌++◌, None, Some, Option, filter, map, if◌then◌else◌, refl, sym, ap, ap₂, ◌∙◌, append_assoc, arith, unwrap_or, leb-true, leb-false, map-append, filter-append, NameId, NodeRecord, first_revision, is_named_in, named_revisions, down_from, hit_at, is_in_range, Hit}
 
 -- ---- filters
 

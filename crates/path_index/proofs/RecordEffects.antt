@@ -1,16 +1,8 @@
 -- What a record of a dump does to the origin of a path, by its act.
-use Rattle.std.proofs.Common.{◌≡◌, ◌≢◌, inl, inr, ℕ, Bool, true, List, ◌++◌, length, drop, Option, None, Some, is_some, refl, sym, ap, subst, ◌∙◌, true≢false}
-use Rattle.svn_path.specs.Below.{below, is_below}
-use Rattle.svn_path.specs.Path.{same_name}
-use Rattle.svn_path.specs.declared.names.NameId.{NameId}
-use Rattle.svn_path.proofs.Belows.{IsSame-same_name, drop-from_below}
-use Rattle.svn_dump.specs.Dump.{record_view, setting_view}
+use Rattle.path_index.proofs.Common.{◌≡◌, ◌≢◌, inl, inr, ℕ, Bool, true, List, ◌++◌, length, drop, Option, None, Some, is_some, refl, sym, ap, subst, ◌∙◌, true≢false, below, is_below, same_name, NameId, IsSame-same_name, drop-from_below, record_view, setting_view, Act, NodeRecord, IsAddition, IsCopy, SetsOrigin, SetsPath}
 use Rattle.svn_dump.specs.declared.record.Kind.{Kind}
-use Rattle.svn_dump.specs.declared.record.Act.{Act}
 use Rattle.svn_dump.specs.declared.record.Act.TheVariants as act
 use Rattle.svn_dump.specs.declared.record.Mi.{Mi}
-use Rattle.svn_dump.specs.declared.record.NodeRecord.{NodeRecord}
-use Rattle.path_index.specs.RecordEffect.{IsAddition, IsCopy, SetsOrigin, SetsPath}
 use Rattle.path_index.proofs.Steps.{KeepsOrigin, KeepsOrigin-delete, KeepsOrigin-change, KeepsOrigin-add, SetsOrigin-add, KeepsOrigin-copy, SetsOrigin-copy}
 
 pub not_IsAddition : (a : Act) → ((replace : Bool) (kind : Kind) (mi : Mi) → a ≢ act.Add replace kind mi) → IsAddition a → ⊥

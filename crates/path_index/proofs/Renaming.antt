@@ -1,13 +1,8 @@
 -- The segments of a path in a renamed history, and which revisions are operative on it.
-use Rattle.std.proofs.Common.{◌≡◌, ℕ, zero, suc, ◌+◌, ◌==◌, nat_lt, Bool, true, false, not, ◌&&◌, ◌||◌, if◌then◌else◌, List, [], ◌∷◌, Option, None, Some, option_map, map, refl, ap, ◌∙◌}
-use Rattle.svn_dump.specs.History.{Record, History, rename_record, rename_history}
-use Rattle.svn_dump.specs.Location.{origin_of, location}
-use Rattle.svn_dump.specs.Tree.{Tree, is_there, tree_of}
+use Rattle.path_index.proofs.Common.{◌≡◌, ℕ, zero, suc, ◌+◌, ◌==◌, nat_lt, Bool, true, false, not, ◌&&◌, ◌||◌, if◌then◌else◌, List, [], ◌∷◌, Option, None, Some, option_map, map, refl, ap, ◌∙◌, Record, History, rename_record, rename_history, origin_of, location, Tree, is_there, tree_of, names_below, came_from_itself, records_in, is_operative, Segment, rename_segment, same_location, with_location, segments_up_to, segments_of}
 use Rattle.svn_dump.proofs.Renaming.Locations.{origin_of-rename, location-rename}
 use Rattle.svn_dump.proofs.Renaming.Paths.{KeepsSame, is_below-rename, same_path-rename}
 use Rattle.svn_dump.proofs.Renaming.Trees.{rename_tree, rename_origin, tree_of-rename, is_there-rename}
-use Rattle.path_index.specs.Operative.{names_below, came_from_itself, records_in, is_operative}
-use Rattle.path_index.specs.Segment.{Segment, rename_segment, same_location, with_location, segments_up_to, segments_of}
 
 -- the records of a revision are renamed
 pub records_in-rename : {C D M N : Type 0} (name : C → D) (text : M → N) (history : History C M) (rev : ℕ)

@@ -1,13 +1,7 @@
 -- Records in the order of their revisions, and those of the revisions up to one.
-use Rattle.std.proofs.Common.{◌≡◌, ◌≢◌, ℕ, ◌≤◌, ◌==◌, Bool, true, false, List, AllPairs, inl, inr, [], ◌∷◌, ◌++◌, All, get_or, if◌then◌else◌, length, map, filter, refl, ap, subst, ◌∙◌, arith, length-append}
-use Rattle.std.specs.List.Sorted.{IsNonDecreasingBy}
+use Rattle.path_index.proofs.Common.{◌≡◌, ◌≢◌, ℕ, ◌≤◌, ◌==◌, Bool, true, false, List, AllPairs, inl, inr, [], ◌∷◌, ◌++◌, All, get_or, if◌then◌else◌, length, map, filter, refl, ap, subst, ◌∙◌, arith, length-append, IsNonDecreasingBy, cases_lt, ne_eqb, All-head, All-tail, record_view, NodeRecord, AreRising, records_of}
 use Rattle.std.proofs.Math.ListN.{get_or-append}
 use Rattle.std.proofs.Math.Seq.{get_or-append_seam}
-use Rattle.std.proofs.lemmas.Bool.{cases_lt, ne_eqb}
-use Rattle.std.proofs.lemmas.List.Elements.{All-head, All-tail}
-use Rattle.svn_dump.specs.Dump.{record_view}
-use Rattle.svn_dump.specs.declared.record.NodeRecord.{NodeRecord}
-use Rattle.path_index.specs.History.{AreRising, records_of}
 
 -- no record is of a later revision
 abbrev pub AreUpTo : ℕ → List NodeRecord → Type 0

@@ -1,13 +1,5 @@
 -- Each segment of a path is just below the one before, with the path at one located in it and at another before it.
-use Rattle.std.proofs.Common.{◌≡◌, ◌≢◌, ℕ, zero, suc, ◌+◌, ◌<◌, Bool, true, false, if◌then◌else◌, List, [], ◌∷◌, Option, None, Some, inl, inr, refl, sym, ap, subst, ◌∙◌, arith, true≢false}
-use Rattle.std.proofs.lemmas.Bool.{cases_order}
-use Rattle.svn_path.specs.Path.{same_name}
-use Rattle.svn_path.specs.declared.names.NameId.{NameId}
-use Rattle.svn_path.proofs.Belows.{IsSame, IsSame-same_name}
-use Rattle.svn_dump.specs.Location.{location}
-use Rattle.svn_dump.specs.declared.record.NodeRecord.{NodeRecord}
-use Rattle.path_index.specs.History.{trees_to}
-use Rattle.path_index.specs.Segment.{AreSegments, IsSegment, Segment, same_location, segments_of, with_location, segments_up_to}
+use Rattle.path_index.proofs.Common.{◌≡◌, ◌≢◌, ℕ, zero, suc, ◌+◌, ◌<◌, Bool, true, false, if◌then◌else◌, List, [], ◌∷◌, Option, None, Some, inl, inr, refl, sym, ap, subst, ◌∙◌, arith, true≢false, cases_order, same_name, NameId, IsSame, IsSame-same_name, location, NodeRecord, trees_to, AreSegments, IsSegment, Segment, same_location, segments_of, with_location, segments_up_to}
 use Rattle.path_index.proofs.SegmentsUpTo.{location_from_same, same_location-itself}
 
 module _ {C : Type 0} (same : C → C → Bool) (is : IsSame same) where

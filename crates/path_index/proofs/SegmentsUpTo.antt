@@ -1,8 +1,5 @@
 -- The segments of the locations in some revisions.
-use Rattle.std.proofs.Common.{◌≡◌, ◌≢◌, ℕ, zero, suc, ◌<◌, ◌≤◌, Bool, true, false, if◌then◌else◌, List, [], ◌∷◌, Option, None, Some, refl, sym, ap, ◌∙◌, arith, true≢false, inl, inr}
-use Rattle.std.proofs.lemmas.Bool.{cases_lt, cond_both}
-use Rattle.svn_path.proofs.Belows.{IsSame, IsSame-same_path, same_path-is}
-use Rattle.path_index.specs.Segment.{Segment, same_location, with_location, segments_up_to}
+use Rattle.path_index.proofs.Common.{◌≡◌, ◌≢◌, ℕ, zero, suc, ◌<◌, ◌≤◌, Bool, true, false, if◌then◌else◌, List, [], ◌∷◌, Option, None, Some, refl, sym, ap, ◌∙◌, arith, true≢false, inl, inr, cases_lt, cond_both, IsSame, IsSame-same_path, same_path-is, Segment, same_location, with_location, segments_up_to}
 
 abbrev segment_from : {C : Type 0} → ℕ → ℕ → Option (List C) → Segment C
 segment_from lo hi located = record { lo = lo; hi = hi; path = located }

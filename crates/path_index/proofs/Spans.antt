@@ -1,34 +1,9 @@
 -- The newest revisions through which a path stood at one location, and where it came from, by the records.
-use Rattle.std.proofs.Common.{◌≡◌, ℕ, zero, suc, ◌+◌, ◌<◌, get_or, length, take, drop, length-drop, ◌≤◌, nat_lt, Bool, false, true, if◌then◌else◌, List, [], ◌∷◌, ◌++◌, All, IfSome, Option, None, Some, is_some, option_map, refl, sym, ap, subst, ◌∙◌, arith, inl, inr, append_assoc, true≢false}
-use Rattle.std.proofs.lemmas.Bool.{cases_lt, leb-true, le-leb}
-use Rattle.std.proofs.lemmas.List.{get_or-drop, drop_more, take-append-drop}
-use Rattle.std.proofs.lemmas.Option.{slice_get-get_or}
-use Rattle.std.proofs.lemmas.List.Elements.{All-push, All-weaker}
-use Rattle.svn_path.specs.Below.{same_path}
-use Rattle.svn_path.specs.Path.{same_name}
-use Rattle.svn_path.specs.declared.names.NameId.{NameId}
-use Rattle.svn_path.proofs.Belows.{IsSame-same_name}
-use Rattle.svn_dump.specs.Dump.{record_view}
-use Rattle.svn_dump.specs.History.{Record}
-use Rattle.svn_dump.specs.Location.{origin_of, location}
-use Rattle.svn_dump.specs.Tree.{Entry, Tree, entry_at, is_there, tree_of, end_tree, start_tree}
-use Rattle.svn_dump.specs.declared.record.NodeRecord.{NodeRecord}
-use Rattle.svn_dump.specs.declared.record.ValueId.{ValueId}
-use Rattle.svn_dump.proofs.Locations.{step_back, location_back, location_stays, location_stays_here, location_agree}
-use Rattle.svn_dump.proofs.Origins.{OriginsFall, OriginsFall-trees_of, OriginsAreThere-trees_of}
+use Rattle.path_index.proofs.Common.{◌≡◌, ℕ, zero, suc, ◌+◌, ◌<◌, get_or, length, take, drop, length-drop, ◌≤◌, nat_lt, Bool, false, true, if◌then◌else◌, List, [], ◌∷◌, ◌++◌, All, IfSome, Option, None, Some, is_some, option_map, refl, sym, ap, subst, ◌∙◌, arith, inl, inr, append_assoc, true≢false, cases_lt, leb-true, le-leb, get_or-drop, drop_more, take-append-drop, slice_get-get_or, All-push, All-weaker, same_path, same_name, NameId, IsSame-same_name, record_view, Record, origin_of, location, Entry, Tree, entry_at, is_there, tree_of, end_tree, start_tree, NodeRecord, ValueId, step_back, location_back, location_stays, location_stays_here, location_agree, OriginsFall, OriginsFall-trees_of, OriginsAreThere-trees_of, records_of, history_to, trees_to, AreRising, IsThere, origin_of_entry, origin_view, SetsOrigin, IsSpan, location_before, Origin, IsNewestBelow, IsCountUpTo, AreByPath, SetsAt, RecordsByPath}
 use Rattle.svn_dump.proofs.Trees.{entry_from, entry_at-tree_from_revision, entry_at-first_tree}
-use Rattle.path_index.specs.History.{records_of, history_to, trees_to, AreRising}
-use Rattle.path_index.specs.Index.{IsThere}
-use Rattle.path_index.specs.RecordEffect.{origin_of_entry, origin_view, SetsOrigin}
-use Rattle.path_index.specs.Span.{IsSpan, location_before}
-use Rattle.svn_dump.specs.declared.record.Origin.{Origin}
 use Rattle.path_index.proofs.EntriesOfPaths.{SetsAt-SetsPath}
 use Rattle.path_index.proofs.RecordEffects.{KeepsOrigin-unset}
 use Rattle.path_index.proofs.Rising.{AreUpTo-before}
-use Rattle.path_index.specs.Numbers.{IsNewestBelow}
-use Rattle.path_index.specs.Records.{IsCountUpTo}
-use Rattle.path_index.specs.RecordsByPath.{AreByPath, SetsAt}
-use Rattle.path_index.specs.declared.records_by_path.RecordsByPath.{RecordsByPath}
 use Rattle.path_index.proofs.Prefixes.{trees_before, tree_of-last, tree_of-earlier, start_tree-first, start_tree-suc, All-records_of, records_of-back, records_of-among}
 use Rattle.path_index.proofs.Steps.{KeepsOrigin, KeepsOrigin-fold, SetsOrigin-fold}
 

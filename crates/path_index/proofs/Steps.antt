@@ -1,15 +1,9 @@
 -- What one record does to the origin of a path that exists after it.
-use Rattle.std.proofs.Common.{◌≡◌, ℕ, IsTrue, Bool, true, List, [], ◌∷◌, ◌++◌, Option, None, Some, All, is_some, option_map, fold, refl, ap, ◌∙◌, true≢false, sym, subst}
-use Rattle.std.proofs.lemmas.List.Elements.{All-head, All-tail}
+use Rattle.path_index.proofs.Common.{◌≡◌, ℕ, IsTrue, Bool, true, List, [], ◌∷◌, ◌++◌, Option, None, Some, All, is_some, option_map, fold, refl, ap, ◌∙◌, true≢false, sym, subst, All-head, All-tail, below, is_below, Setting, delete, change, add, copy, Record, Tree, Entry, entry_at, is_there, tree_of, tree_after_record, IsSame, below-itself, origin_of_entry, SetsOrigin}
 use Rattle.std.proofs.lemmas.List.Sums.{fold-append}
-use Rattle.svn_path.specs.Below.{below, is_below}
-use Rattle.svn_dump.specs.History.{Setting, delete, change, add, copy, Record}
-use Rattle.svn_dump.specs.Tree.{Tree, Entry, entry_at, is_there, tree_of, tree_after_record}
 use Rattle.svn_dump.specs.declared.record.Kind.{Kind}
-use Rattle.svn_path.proofs.Belows.{IsSame, below-itself}
 use Rattle.svn_dump.proofs.Belows.{path_from_below}
 use Rattle.svn_dump.proofs.Trees.{entry_at-elsewhere, entry_at-under, entry_left, settled_entry_at, entry_from}
-use Rattle.path_index.specs.RecordEffect.{origin_of_entry, SetsOrigin}
 
 -- the path existed before the record, and had the same origin
 pub record KeepsOrigin {C M : Type 0} (same : C → C → Bool) (path : List C) (each : Record C M) : Type 0 where

@@ -1,19 +1,5 @@
 -- The walk back over the records, from one origin to the next.
-use Rattle.std.proofs.Common.{◌≡◌, ◌≢◌, ℕ, suc, ◌+◌, ◌-◌, ◌<◌, ◌≤◌, nat_lt, if◌then◌else◌, List, [], ◌∷◌, ◌++◌, map, append_assoc, append-nil, ◌⊎◌, ⊎_elim, Option, None, Some, inl, inr, refl, sym, ap, subst, ◌∙◌, arith}
-use Rattle.std.proofs.lemmas.Bool.{cases_lt, lt-ltb, le-ltb}
-use Rattle.std.proofs.lemmas.Option.{none-some, same_Some}
-use Rattle.svn_path.specs.Path.{same_name}
-use Rattle.svn_path.specs.declared.names.NameId.{NameId}
-use Rattle.svn_path.proofs.Belows.{IsSame-same_name}
-use Rattle.svn_dump.specs.Location.{location}
-use Rattle.svn_dump.specs.declared.record.NodeRecord.{NodeRecord}
-use Rattle.svn_dump.proofs.Locations.{location_here, location_later}
-use Rattle.svn_dump.proofs.Origins.{OriginsFall-trees_of}
-use Rattle.path_index.specs.History.{history_to, trees_to}
-use Rattle.path_index.specs.Segment.{Segment, segments_up_to}
-use Rattle.path_index.specs.Index.{IsThere, gap_between, segment_view}
-use Rattle.path_index.specs.Span.{location_before}
-use Rattle.svn_dump.specs.declared.record.Origin.{Origin}
+use Rattle.path_index.proofs.Common.{◌≡◌, ◌≢◌, ℕ, suc, ◌+◌, ◌-◌, ◌<◌, ◌≤◌, nat_lt, if◌then◌else◌, List, [], ◌∷◌, ◌++◌, map, append_assoc, append-nil, ◌⊎◌, ⊎_elim, Option, None, Some, inl, inr, refl, sym, ap, subst, ◌∙◌, arith, cases_lt, lt-ltb, le-ltb, none-some, same_Some, same_name, NameId, IsSame-same_name, location, NodeRecord, location_here, location_later, OriginsFall-trees_of, history_to, trees_to, Segment, segments_up_to, IsThere, gap_between, segment_view, location_before, Origin}
 use Rattle.path_index.specs.declared.segment.Segment.{Segment as KeptSegment}
 use Rattle.path_index.proofs.SegmentsUpTo.{segments_up_to-next, segments_up_to-first}
 

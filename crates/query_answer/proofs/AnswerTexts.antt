@@ -1,44 +1,16 @@
 -- The answer to a query, by what was found of its peg and of the peg's path.
-use Rattle.std.proofs.Common.{◌≡◌, ℕ, ◌<◌, ◌≤◌, true, false, List, [], ◌∷◌, Option, Some, None, filter, option_map, length, map, bytes_eq, refl, sym, ap, ap₂, subst, ◌∙◌}
-use Rattle.std.specs.Prelude.{◌++◌, All, Err, Result, Vec, codes, decimal, filter_map, flat_map, option_and_then, reverse, slice_get, zero, suc}
+use Rattle.query_answer.proofs.Common.{◌≡◌, ℕ, ◌<◌, ◌≤◌, true, false, List, [], ◌∷◌, Option, Some, None, filter, option_map, length, map, bytes_eq, refl, sym, ap, ap₂, subst, ◌∙◌, Err, Result, Vec, codes, decimal, filter_map, flat_map, option_and_then, reverse-reverse, All-cons, All-filter, All-head, All-nil, All-tail, All-weaker, le-leb, lt-leb, history_to, trees_to, AreMaximal, IndexValue, IsThere, IsWhole, segment_view, operative_of, is_in_range, rename_segment, segments_of, Hit, name_of, same_name, components_of, NameId, MergeInfoValue, line_text, DumpValue, history_in_bytes, location, is_there, tree_of, NodeRecord, Answer, IsAnswer, IsLocationOf, HasPathOf, TreesOfBytes, if_both_exist, if_peg_exists, with_effective_mergeinfo, with_value, answer_of, eligible_lines, hit_line, locate_lines, location_line, log_line, log_lines, merged_lines, value_answer, ok_answer, refused_answer, segment_in_bytes, segment_line, segments_in_bytes, segments_lines, effective_value, Peg, PegValue, peg_view, bad, eligible, locate, log, merged, mergeinfo, segments, held_value, IsMergeinfoRefused, IsPair, IsPairRefused, IsPegFound, IsPegRefused, IsRepo, with_peg_in, with_pair_in, effective_in, held_answer, index_of_dump, locate_answer, log_answer, mergeinfo_answer, peg_in_bytes, segments_answer, trees_in_bytes, PathRev, Memory, Refused, HasAnswer, MapValue}
+use Rattle.std.specs.Prelude.{◌++◌, All, reverse, slice_get, zero, suc}
 use Rattle.std.specs.declared.alloc.Global.{Global}
-use Rattle.std.proofs.lemmas.List.{reverse-reverse}
-use Rattle.std.proofs.lemmas.List.Elements.{All-cons, All-filter, All-head, All-nil, All-tail, All-weaker}
-use Rattle.std.proofs.lemmas.Bool.{le-leb, lt-leb}
 use Rattle.std.specs.Borrow.{Bor}
-use Rattle.path_index.specs.History.{history_to, trees_to}
-use Rattle.path_index.specs.Index.{AreMaximal, IndexValue, IsThere, IsWhole, segment_view}
-use Rattle.path_index.specs.Operative.{operative_of}
-use Rattle.path_index.specs.Range.{is_in_range}
-use Rattle.path_index.specs.Segment.{rename_segment, segments_of}
-use Rattle.path_index.specs.declared.segment.Hit.{Hit}
 use Rattle.path_index.specs.declared.segment.Segment.{Segment as KeptSegment}
-use Rattle.svn_path.specs.Names.{name_of}
-use Rattle.svn_path.specs.Path.{same_name, components_of}
-use Rattle.svn_path.specs.declared.names.NameId.{NameId}
-use Rattle.merge_info.specs.Value.{MergeInfoValue}
 use Rattle.merge_info.specs.Text.{printed_entry, value_text}
-use Rattle.svn_text.specs.Line.{line_text}
-use Rattle.svn_dump.specs.Dump.{DumpValue, history_in_bytes}
-use Rattle.svn_dump.specs.Location.{location}
 use Rattle.svn_dump.specs.Record.{HistoryOfBytes}
-use Rattle.svn_dump.specs.Tree.{is_there, tree_of}
-use Rattle.svn_dump.specs.declared.record.NodeRecord.{NodeRecord}
-use Rattle.query_answer.specs.Answer.{Answer, IsAnswer, IsLocationOf, HasPathOf, TreesOfBytes, if_both_exist, if_peg_exists, with_effective_mergeinfo, with_value, answer_of, eligible_lines, hit_line, locate_lines, location_line, log_line, log_lines, merged_lines, value_answer, ok_answer, refused_answer, segment_in_bytes, segment_line, segments_in_bytes, segments_lines}
-use Rattle.query_answer.specs.Effective.{effective_value}
-use Rattle.query_answer.specs.Peg.{Peg, PegValue, peg_view}
-use Rattle.query_answer.specs.Query.{bad, eligible, locate, log, merged, mergeinfo, segments}
-use Rattle.query_answer.specs.Held.{held_value}
-use Rattle.query_answer.specs.Repo.{IsMergeinfoRefused, IsPair, IsPairRefused, IsPegFound, IsPegRefused, IsRepo, with_peg_in, with_pair_in, effective_in, held_answer, index_of_dump, locate_answer, log_answer, mergeinfo_answer, peg_in_bytes, segments_answer, trees_in_bytes}
 use Rattle.query_answer.specs.declared.answers.Answer.{Answer as KeptAnswer}
 use Rattle.query_answer.specs.declared.answers.Answer.TheVariants as kept
 use Rattle.query_answer.specs.declared.held_mergeinfo.HeldMergeinfo.{HeldMergeinfo}
-use Rattle.query_answer.specs.declared.target.PathRev.{PathRev}
 use Rattle.query_answer.specs.declared.unanswered.Unanswered.{Unanswered}
-use Rattle.query_answer.specs.declared.unanswered.Unanswered.TheVariants.{Memory, Refused}
-use Rattle.query_answer.specs.Unanswered.{HasAnswer}
 use Rattle.query_answer.specs.declared.verbs.pair.Pair.{Pair}
-use Rattle.block_map.specs.Map.{MapValue}
 use Rattle.query_answer.specs.declared.status.Status.{Status}
 use Rattle.query_answer.specs.declared.status.Status.TheVariants as status
 use Rattle.query_answer.proofs.OperativeLocations.{HasLocation, operative_of-located}

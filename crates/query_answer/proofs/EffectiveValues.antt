@@ -1,24 +1,8 @@
 -- What a mergeinfo says of a path below its own.
-use Rattle.std.proofs.Common.{◌≡◌, ◌≢◌, ℕ, ◌-◌, ◌<◌, ◌≤◌, ◌==◌, false, List, [], ◌∷◌, Option, Some, None, IfSome, bytes_eq, drop, take, length, refl, ap, sym, ◌∙◌, arith, eq-eqb, eqb-true}
+use Rattle.query_answer.proofs.Common.{◌≡◌, ◌≢◌, ℕ, ◌-◌, ◌<◌, ◌≤◌, ◌==◌, false, List, [], ◌∷◌, Option, Some, None, IfSome, bytes_eq, drop, take, length, refl, ap, sym, ◌∙◌, arith, eq-eqb, eqb-true, false_from_ne_true, drop-map, length-drop, length-map, DumpValue, IsDump, text_of, tree_of, path_text, name_of, components_of, same_name, NameId, MergeInfoValue, NearestMergeinfo, effective_of, nearest, own_or_inherited, own_or_below, depth_in, text_found, value_said, PegValue, peg_view, IsNearestIn, IsTargetFound, effective_in, nearest_text_at, nearest_text_in, nearest_by_number, trees_in_bytes, revision_in}
 use Rattle.std.specs.Prelude.{option_map}
-use Rattle.std.proofs.lemmas.Bool.{false_from_ne_true}
-use Rattle.std.proofs.lemmas.List.{drop-map, length-drop, length-map}
-use Rattle.svn_dump.specs.Dump.{DumpValue, IsDump, text_of}
-use Rattle.svn_dump.specs.Tree.{tree_of}
-use Rattle.svn_path.specs.Components.{path_text}
-use Rattle.svn_path.specs.Names.{name_of}
-use Rattle.svn_path.specs.Path.{components_of, same_name}
-use Rattle.svn_path.specs.declared.names.NameId.{NameId}
 use Rattle.merge_info.specs.CanonicalValue.{inherited_value}
-use Rattle.merge_info.specs.Value.{MergeInfoValue}
-use Rattle.query_answer.specs.Effective.{NearestMergeinfo, effective_of, nearest, own_or_inherited}
-use Rattle.query_answer.specs.HeldValue.{own_or_below}
-use Rattle.query_answer.specs.Held.{depth_in}
-use Rattle.query_answer.specs.NearestValue.{text_found, value_said}
-use Rattle.query_answer.specs.Peg.{PegValue, peg_view}
-use Rattle.query_answer.specs.Repo.{IsNearestIn, IsTargetFound, effective_in, nearest_text_at, nearest_text_in, nearest_by_number, trees_in_bytes}
 use Rattle.query_answer.specs.declared.target.Target.{Target}
-use Rattle.block_map.specs.Map.{revision_in}
 use Rattle.block_map.specs.declared.entry.Nearest.{Nearest}
 use Rattle.query_answer.proofs.InBytes.{nearest-in_bytes}
 use Rattle.query_answer.proofs.NearestMergeinfo.{own-nearest_from, with_mergeinfo_by}

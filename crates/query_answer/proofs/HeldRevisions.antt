@@ -1,25 +1,13 @@
 -- What a path holds of a value has a revision exactly where the value has it for what is above.
-use Rattle.std.proofs.Common.{◌≡◌, ℕ, ◌-◌, ◌<◌, ◌==◌, Bool, not, false, List, [], ◌∷◌, ◌++◌, Option, Some, None, drop, length, take, inl, inr, refl, sym, ap, ◌∙◌, arith, eqb-true, if◌then◌else◌, take-append-drop}
-use Rattle.std.specs.Prelude.{option_and_then}
+use Rattle.query_answer.proofs.Common.{◌≡◌, ℕ, ◌-◌, ◌<◌, ◌==◌, Bool, not, false, List, [], ◌∷◌, ◌++◌, Option, Some, None, drop, length, take, inl, inr, refl, sym, ap, ◌∙◌, arith, eqb-true, if◌then◌else◌, take-append-drop, option_and_then, both_ways, cases_Bool, false_from_ne_true, All-take, drop-map, drop_all, length-append, length-map, map-append, take_all, path_text, IsTable, name_of, IsPathOf, components_of, same_name, NameId, components_of-components, components_of-same, IsMergeInfo, MergeInfoValue, runs_at, some_runs, own_or_below, path_above, ranges_at, value_has}
 use Rattle.std.specs.Cmp.Lexicographic.{pointwise}
-use Rattle.std.proofs.lemmas.Bool.{both_ways, cases_Bool, false_from_ne_true}
-use Rattle.std.proofs.lemmas.List.Elements.{All-take}
-use Rattle.std.proofs.lemmas.List.{drop-map, drop_all, length-append, length-map, map-append, take_all}
 use Rattle.std.proofs.Math.Seq.{drop-append_seam}
 use Rattle.range_list.specs.Rangelist.{inheritability_of}
 use Rattle.range_list.specs.declared.run.Run.{Run}
-use Rattle.svn_path.specs.Components.{path_text}
-use Rattle.svn_path.specs.Names.{IsTable, name_of}
-use Rattle.svn_path.specs.Path.{IsPathOf, components_of, same_name}
-use Rattle.svn_path.specs.declared.names.NameId.{NameId}
 use Rattle.svn_path.proofs.Orders.{paths_eq-Decides}
-use Rattle.svn_path.proofs.Tables.{components_of-components, components_of-same}
 use Rattle.merge_info.specs.CanonicalValue.{canonical_value, inherited_value}
 use Rattle.merge_info.specs.Inherited.{inherited_revision}
-use Rattle.merge_info.specs.Value.{IsMergeInfo, MergeInfoValue, runs_at, some_runs}
 use Rattle.merge_info.proofs.InheritedRevisions.{inherited-below, inherited-other}
-use Rattle.query_answer.specs.HeldValue.{own_or_below, path_above, ranges_at}
-use Rattle.query_answer.specs.Merged.{value_has}
 
 -- whether the revisions have one, if there are any
 abbrev pub some_have : Option (List Run) → ℕ → Option Bool

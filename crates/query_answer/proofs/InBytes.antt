@@ -1,32 +1,11 @@
 -- The history of a dump by numbers and by bytes: what holds of the one holds of the other, renamed.
-use Rattle.std.proofs.Common.{◌≡◌, ℕ, zero, suc, ◌+◌, ◌<◌, Bool, true, false, List, [], ◌∷◌, All, map, length, take, bytes_eq, is_some, Option, Some, None, option_map, if◌then◌else◌, refl, sym, ap, ◌∙◌, subst, arith}
-use Rattle.std.proofs.lemmas.List.{length-map}
-use Rattle.std.proofs.lemmas.List.Elements.{All-cons, All-get_or, All-head, All-nil, All-tail}
-use Rattle.path_index.specs.History.{history_to, trees_to}
-use Rattle.path_index.specs.Operative.{operative_of}
-use Rattle.path_index.specs.Segment.{Segment, rename_segment, segments_up_to, same_location, segments_of, with_location}
-use Rattle.path_index.specs.Index.{IsThere, IsWhole}
+use Rattle.query_answer.proofs.Common.{◌≡◌, ℕ, zero, suc, ◌+◌, ◌<◌, Bool, true, false, List, [], ◌∷◌, All, map, length, take, bytes_eq, is_some, Option, Some, None, option_map, if◌then◌else◌, refl, sym, ap, ◌∙◌, subst, arith, length-map, All-cons, All-get_or, All-head, All-nil, All-tail, history_to, trees_to, operative_of, Segment, rename_segment, segments_up_to, same_location, segments_of, with_location, IsThere, IsWhole, segments_of-rename, IsComponent, name_of, same_name, components_of, HasUnknown, IsPathOf, NameId, bytes_eq-name_of, bytes_eq-unknown, DumpValue, IsDump, history_view, history_in_bytes, record_view, text_of, location, Tree, is_there, tree_of, trees_of, ValueId, length-trees_of, rename_tree, trees_of-rename, tree_of-rename, is_there-rename, tree_of_unnamed, IsLocationOf, nearest, nearest_from, index_of_dump, trees_in_bytes}
 use Rattle.path_index.proofs.Histories.{AreRising-from_revisions, history_to-take, operative_of-take, segments_of-take, segments_of-up}
-use Rattle.path_index.proofs.Renaming.{segments_of-rename}
-use Rattle.svn_path.specs.Components.{IsComponent}
-use Rattle.svn_path.specs.Names.{name_of}
-use Rattle.svn_path.specs.Path.{same_name, components_of, HasUnknown, IsPathOf}
-use Rattle.svn_path.specs.declared.names.NameId.{NameId}
-use Rattle.svn_path.proofs.Tables.{bytes_eq-name_of, bytes_eq-unknown}
-use Rattle.svn_dump.specs.Dump.{DumpValue, IsDump, history_view, history_in_bytes, record_view, text_of}
 use Rattle.svn_dump.specs.Fault.{first_fault}
-use Rattle.svn_dump.specs.Location.{location}
-use Rattle.svn_dump.specs.Tree.{Tree, is_there, tree_of, trees_of}
-use Rattle.svn_dump.specs.declared.record.ValueId.{ValueId}
 use Rattle.svn_dump.proofs.FirstRevisions.{is_there-take, location-take}
 use Rattle.svn_dump.proofs.Grouped.{length-records_by_revision}
-use Rattle.svn_dump.proofs.Revisions.{length-trees_of}
-use Rattle.svn_dump.proofs.Renaming.Trees.{rename_tree, trees_of-rename, tree_of-rename, is_there-rename, tree_of_unnamed}
 use Rattle.svn_dump.proofs.Renaming.Faults.{first_fault-rename}
 use Rattle.svn_dump.proofs.Renaming.Locations.{location-rename}
-use Rattle.query_answer.specs.Answer.{IsLocationOf}
-use Rattle.query_answer.specs.Effective.{nearest, nearest_from}
-use Rattle.query_answer.specs.Repo.{index_of_dump, trees_in_bytes}
 use Rattle.query_answer.proofs.NearestMergeinfo.{nearest_from-rename, with_mergeinfo_by}
 use Rattle.query_answer.proofs.TreePaths.{IsOf-location}
 

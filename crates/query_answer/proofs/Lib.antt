@@ -1,3 +1,4 @@
+mod Common
 pub mod AnswerTexts
 mod EffectiveValues
 mod HeldRevisions

@@ -1,21 +1,7 @@
 -- The nearest mergeinfo of a path: in a renamed tree, step by step from the root, and as a map finds it.
-use Rattle.std.proofs.Common.{◌≡◌, ℕ, zero, suc, ◌+◌, Bool, List, [], Option, None, Some, map, option_map, option_and_then, take, refl, ap, ◌∙◌, ◌≤◌, length, sym, arith, ◌⊎◌, inl, inr, subst}
-use Rattle.std.proofs.lemmas.List.{take-map}
-use Rattle.std.proofs.lemmas.Option.{same_Some}
-use Rattle.std.proofs.lemmas.Bool.{cases_lt}
-use Rattle.svn_path.specs.Path.{same_name}
-use Rattle.svn_path.specs.declared.names.NameId.{NameId}
-use Rattle.svn_dump.specs.Dump.{DumpValue}
-use Rattle.svn_dump.specs.Tree.{Tree, Entry, entry_at}
-use Rattle.svn_dump.proofs.Trees.{entry_at-nil}
+use Rattle.query_answer.proofs.Common.{◌≡◌, ℕ, zero, suc, ◌+◌, Bool, List, [], Option, None, Some, map, option_map, take, refl, ap, ◌∙◌, ◌≤◌, length, sym, arith, ◌⊎◌, inl, inr, subst, take-map, same_Some, cases_lt, same_name, NameId, DumpValue, Tree, Entry, entry_at, entry_at-nil, rename_entry, rename_tree, entry_at-rename, NearestMergeinfo, nearest, nearest_from, own_mergeinfo, own_or, depth_in, IsNearestIn, nearest_by_number, ValueId, HasNoneFrom, IsNearest, IsNearestOrNone, revision_in, Standing, own_mergeinfo_at}
+use Rattle.std.proofs.Common.{option_and_then}
 use Rattle.svn_dump.proofs.Renaming.Paths.{KeepsSame}
-use Rattle.svn_dump.proofs.Renaming.Trees.{rename_entry, rename_tree, entry_at-rename}
-use Rattle.query_answer.specs.Effective.{NearestMergeinfo, nearest, nearest_from, own_mergeinfo, own_or}
-use Rattle.query_answer.specs.Held.{depth_in}
-use Rattle.query_answer.specs.Repo.{IsNearestIn, nearest_by_number}
-use Rattle.svn_dump.specs.declared.record.ValueId.{ValueId}
-use Rattle.block_map.specs.Map.{HasNoneFrom, IsNearest, IsNearestOrNone, revision_in}
-use Rattle.block_map.specs.Standing.{Standing, own_mergeinfo_at}
 use Rattle.block_map.specs.declared.entry.Nearest.{Nearest}
 
 -- ---- in a renamed tree

@@ -1,21 +1,8 @@
 -- The locations of a path in its operative revisions, by its segments and their operative revisions.
-use Rattle.std.proofs.Common.{◌≡◌, ℕ, zero, suc, pred, ◌+◌, ◌-◌, ◌<◌, ◌≤◌, Bool, true, false, if◌then◌else◌, List, [], ◌∷◌, ◌++◌, Option, Some, None, All, drop, filter, get_or, length, map, reverse, option_map, slice_get, take, refl, sym, ap, ap₂, ◌∙◌, append-nil, arith}
-use Rattle.std.specs.Prelude.{filter_map, option_and_then}
-use Rattle.std.specs.List.{cons_option, range_with_len}
-use Rattle.std.proofs.lemmas.List.{map-id, reverse-append, take_more}
-use Rattle.std.proofs.lemmas.List.Elements.{All-append, All-cons, All-nil, filter_map-append}
+use Rattle.query_answer.proofs.Common.{◌≡◌, ℕ, zero, suc, pred, ◌+◌, ◌-◌, ◌<◌, ◌≤◌, Bool, true, false, if◌then◌else◌, List, [], ◌∷◌, ◌++◌, Option, Some, None, All, drop, filter, get_or, length, map, reverse, option_map, slice_get, take, refl, sym, ap, ap₂, ◌∙◌, append-nil, arith, filter_map, option_and_then, cons_option, range_with_len, map-id, reverse-append, take_more, All-append, All-cons, All-nil, filter_map-append, History, rename_history, location, Tree, rename_tree, down_from, hit_at, is_operative, operative_from, operative_in, operative_of, AreSegments, IsSegment, Segment, Hit, is_operative-rename, found_in, operative_location}
 use Rattle.std.proofs.lemmas.List.FromFn.{map-range_with_len_more}
-use Rattle.svn_dump.specs.History.{History, rename_history}
-use Rattle.svn_dump.specs.Location.{location}
-use Rattle.svn_dump.specs.Tree.{Tree}
 use Rattle.svn_dump.proofs.Renaming.Locations.{location-rename}
 use Rattle.svn_dump.proofs.Renaming.Paths.{KeepsSame}
-use Rattle.svn_dump.proofs.Renaming.Trees.{rename_tree}
-use Rattle.path_index.specs.Operative.{down_from, hit_at, is_operative, operative_from, operative_in, operative_of}
-use Rattle.path_index.specs.Segment.{AreSegments, IsSegment, Segment}
-use Rattle.path_index.specs.declared.segment.Hit.{Hit}
-use Rattle.path_index.proofs.Renaming.{is_operative-rename}
-use Rattle.query_answer.specs.Merged.{found_in, operative_location}
 
 -- ---- numbers downwards
 

@@ -1,26 +1,12 @@
 -- The segments of a path of a repository, and their operative revisions.
-use Rattle.std.proofs.Common.{◌≡◌, ℕ, zero, suc, ◌+◌, ◌<◌, ◌≤◌, List, [], ◌∷◌, Option, None, filter, get_or, length, ltb, map, sym, ap, subst, ◌∙◌, arith}
-use Rattle.std.specs.Prelude.{All, IfOk, Ok, Err, Result, Vec}
+use Rattle.query_answer.proofs.Common.{◌≡◌, ℕ, zero, suc, ◌+◌, ◌<◌, ◌≤◌, List, [], ◌∷◌, Option, None, filter, get_or, length, ltb, map, sym, ap, subst, ◌∙◌, arith, IfOk, Ok, Err, Result, Vec, lt-ltb, ltb-true, history_to, trees_to, AreHitsInRange, AreMaximal, AreSegmentsOf, IndexValue, location_in, segment_view, operative_of, is_in_range, AreSegments, Hit, IsPathOf, same_name, NameId, DumpValue, IsLocationOf, TellsLocations, AreHitsIn, AreSegmentsIn, IsRepo, MapValue}
+use Rattle.std.specs.Prelude.{All}
 use Rattle.std.specs.List.Sorted.{IsPartitionedBy}
-use Rattle.std.proofs.lemmas.Bool.{lt-ltb, ltb-true}
 use Rattle.std.specs.declared.alloc.AllocError.{AllocError}
 use Rattle.std.specs.declared.alloc.Global.{Global}
-use Rattle.path_index.specs.History.{history_to, trees_to}
-use Rattle.path_index.specs.Index.{AreHitsInRange, AreMaximal, AreSegmentsOf, IndexValue, location_in, segment_view}
-use Rattle.path_index.specs.Operative.{operative_of}
-use Rattle.path_index.specs.Range.{is_in_range}
-use Rattle.path_index.specs.Segment.{AreSegments}
-use Rattle.path_index.specs.declared.segment.Hit.{Hit}
 use Rattle.path_index.specs.declared.segment.Segment.{Segment}
-use Rattle.svn_path.specs.Path.{IsPathOf, same_name}
-use Rattle.svn_path.specs.declared.names.NameId.{NameId}
-use Rattle.svn_dump.specs.Dump.{DumpValue}
 use Rattle.svn_dump.proofs.Locations.{location_later}
 use Rattle.svn_dump.proofs.Origins.{OriginsFall-trees_of}
-use Rattle.query_answer.specs.Answer.{IsLocationOf}
-use Rattle.query_answer.specs.SourceHits.{TellsLocations}
-use Rattle.query_answer.specs.Repo.{AreHitsIn, AreSegmentsIn, IsRepo}
-use Rattle.block_map.specs.Map.{MapValue}
 use Rattle.query_answer.proofs.AnswerTexts.{All-kept, IsThere-IsRepo}
 use Rattle.query_answer.proofs.InBytes.{segments-of_names}
 

@@ -1,23 +1,9 @@
 -- Whether the path of a peg is in the tree of its revision, by what the map says there, and what is below the path of its
 -- nearest mergeinfo.
-use Rattle.std.proofs.Common.{◌≡◌, ℕ, ◌<◌, true, false, List, Option, is_some, option_map, bytes_eq, length, refl, subst, ◌∙◌, arith}
-use Rattle.std.proofs.lemmas.List.Elements.{All-drop}
-use Rattle.svn_path.specs.Path.{IsPathOf, same_name}
-use Rattle.svn_path.specs.declared.names.NameId.{NameId}
-use Rattle.svn_dump.specs.Dump.{DumpValue}
-use Rattle.svn_dump.specs.Tree.{is_there, tree_of}
-use Rattle.path_index.specs.Index.{IndexValue}
-use Rattle.block_map.specs.Map.{MapValue, revision_in}
-use Rattle.block_map.specs.Standing.{entry_view, standing_at}
+use Rattle.query_answer.proofs.Common.{◌≡◌, ℕ, ◌<◌, true, false, List, Option, is_some, option_map, bytes_eq, length, refl, subst, ◌∙◌, arith, All-drop, IsPathOf, same_name, NameId, DumpValue, is_there, tree_of, IndexValue, MapValue, revision_in, entry_view, standing_at, depth_in, rest_of, PathRev, if_peg_exists, refused_answer, PegValue, IsPegFound, IsPegKnown, IsPegRefused, IsRepo, peg_in_bytes, trees_in_bytes, Refused}
 use Rattle.block_map.specs.declared.entry.Entry as kept
-use Rattle.query_answer.specs.Held.{depth_in, rest_of}
-use Rattle.query_answer.specs.declared.target.PathRev.{PathRev}
 use Rattle.query_answer.specs.declared.target.Target.{Target}
-use Rattle.query_answer.specs.Answer.{if_peg_exists, refused_answer}
-use Rattle.query_answer.specs.Peg.{PegValue}
-use Rattle.query_answer.specs.Repo.{IsPegFound, IsPegKnown, IsPegRefused, IsRepo, peg_in_bytes, trees_in_bytes}
 use Rattle.query_answer.specs.declared.status.Status.TheVariants as status
-use Rattle.query_answer.specs.declared.unanswered.Unanswered.TheVariants.{Refused}
 use Rattle.query_answer.proofs.AnswerTexts.{if_peg_exists-absent, if_peg_exists-present}
 use Rattle.query_answer.proofs.InBytes.{IsThere-there, length-trees_in_bytes, there-in_bytes}
 use Rattle.query_answer.proofs.RevisionTicks.{is_there-entry}

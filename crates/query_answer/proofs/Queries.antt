@@ -1,13 +1,8 @@
 -- What a line asks, by the cuts of the line.
-use Rattle.std.proofs.Common.{◌≡◌, ℕ, Bool, List, [], ◌∷◌, Option, None, option_map, refl, sym, ap, ◌∙◌, inl, inr}
-use Rattle.std.proofs.lemmas.Bool.{cases_Bool, false_from_ne_true}
-use Rattle.std.specs.List.{slice_split}
-use Rattle.svn_path.specs.Components.{HasDot}
+use Rattle.query_answer.proofs.Common.{◌≡◌, ℕ, Bool, List, [], ◌∷◌, Option, None, option_map, refl, sym, ap, ◌∙◌, inl, inr, cases_Bool, false_from_ne_true, slice_split, HasDot, PegValue, peg_value_of, bad, is_tab, query_of, query_of_fields}
 use Rattle.svn_text.specs.Number.{number_up_to, greatest_revision}
 use Rattle.svn_text.proofs.Lines.{list_any-Lacks}
 use Rattle.svn_text.specs.Cut.{IsCutAt, IsCutAtLast, Lacks}
-use Rattle.query_answer.specs.Peg.{PegValue, peg_value_of}
-use Rattle.query_answer.specs.Query.{bad, is_tab, query_of, query_of_fields}
 use Rattle.query_answer.specs.Range.{range_of}
 use Rattle.svn_text.proofs.Cuts.{CutsFirst-IsCutAt, slice_split-cut, slice_split-uncut}
 use Rattle.svn_text.proofs.Cuts.{list_any-cut, before_last-cut, after_last-cut}

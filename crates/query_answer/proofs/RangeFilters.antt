@@ -1,10 +1,5 @@
 -- Filters of what is found of the elements of a list.
-use Rattle.std.proofs.Common.{◌≡◌, Bool, true, false, if◌then◌else◌, List, [], ◌∷◌, ◌++◌, Option, Some, None, All}
-use Rattle.std.proofs.Common.{filter, map, option_map, reverse, refl, sym, ap, ◌∙◌, append-nil}
-use Rattle.std.specs.Prelude.{filter_map}
-use Rattle.std.specs.List.{cons_option}
-use Rattle.std.proofs.lemmas.List.{reverse-append}
-use Rattle.std.proofs.lemmas.List.Elements.{All-head, All-tail, filter-append}
+use Rattle.query_answer.proofs.Common.{◌≡◌, Bool, true, false, if◌then◌else◌, List, [], ◌∷◌, ◌++◌, Option, Some, None, All, filter, map, option_map, reverse, refl, sym, ap, ◌∙◌, append-nil, filter_map, cons_option, reverse-append, All-head, All-tail, filter-append}
 
 -- what is found of an element passes where the element does, so the elements can be filtered first
 module _ {A B : Type 0} (found : A → Option B) (p : A → Bool) (q : B → Bool)

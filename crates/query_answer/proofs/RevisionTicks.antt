@@ -1,22 +1,10 @@
 -- The ends of the revisions of a repository, and what stands at a path there.
-use Rattle.std.proofs.Common.{◌≡◌, ℕ, ◌+◌, ◌<◌, ◌≤◌, sum, List, length, get_or, Option, None, Some, is_some, option_map, refl, sym, ap, ◌∙◌, arith}
-use Rattle.std.proofs.lemmas.List.{length-map}
+use Rattle.query_answer.proofs.Common.{◌≡◌, ℕ, ◌+◌, ◌<◌, ◌≤◌, sum, List, length, get_or, Option, None, Some, is_some, option_map, refl, sym, ap, ◌∙◌, arith, length-map, none-some, DumpValue, IsDump, Entry, Tree, entry_at, is_there, NodeRecord, ValueId, IndexValue, IsEndIn, MapValue, hi_of, entry_view, standing_at, same_name, NameId, IsRepo}
 use Rattle.std.proofs.lemmas.List.Sums.{sum_by-take-le}
-use Rattle.std.proofs.lemmas.Option.{none-some}
-use Rattle.svn_dump.specs.Dump.{DumpValue, IsDump}
-use Rattle.svn_dump.specs.Tree.{Entry, Tree, entry_at, is_there}
-use Rattle.svn_dump.specs.declared.record.NodeRecord.{NodeRecord}
-use Rattle.svn_dump.specs.declared.record.ValueId.{ValueId}
 use Rattle.svn_dump.proofs.Grouped.{length-revisions_from, total-sum}
-use Rattle.path_index.specs.Index.{IndexValue}
 use Rattle.block_map.specs.Ends.{end_of}
-use Rattle.block_map.specs.Map.{IsEndIn, MapValue, hi_of}
-use Rattle.block_map.specs.Standing.{entry_view, standing_at}
 use Rattle.block_map.specs.declared.entry.Entry as kept
 use Rattle.block_map.proofs.RevisionEnds.{ends_of-at, length-ends_of}
-use Rattle.svn_path.specs.Path.{same_name}
-use Rattle.svn_path.specs.declared.names.NameId.{NameId}
-use Rattle.query_answer.specs.Repo.{IsRepo}
 
 -- each record of a dump has its revision
 pub sum-counts : (dump : DumpValue) → IsDump dump → sum dump.counts ≡ length dump.records

@@ -1,32 +1,9 @@
 -- What is found at the operative revisions of a source, by its kept segments.
-use Rattle.std.proofs.Common.{◌≡◌, ℕ, zero, suc, ◌+◌, Bool, true, false, not, ◌&&◌, if◌then◌else◌, List, [], ◌∷◌, Option, Some, None, IfSome, All, filter, option_map, is_none, map, reverse, slice_get, bytes_eq, refl, sym, ap, subst, ◌∙◌}
-use Rattle.std.proofs.lemmas.List.Elements.{All-head, All-tail}
-use Rattle.std.specs.List.{range_with_len}
-use Rattle.std.specs.Prelude.{filter_map, option_and_then}
-use Rattle.path_index.specs.History.{history_to, trees_to}
-use Rattle.path_index.specs.Index.{location_in, segment_view}
-use Rattle.path_index.specs.Operative.{operative_of}
-use Rattle.path_index.specs.Range.{is_in_range}
-use Rattle.path_index.specs.Segment.{AreSegments, same_location, segments_of}
-use Rattle.path_index.specs.declared.segment.Hit.{Hit}
+use Rattle.query_answer.proofs.Common.{◌≡◌, ℕ, zero, suc, ◌+◌, Bool, true, false, not, ◌&&◌, if◌then◌else◌, List, [], ◌∷◌, Option, Some, None, IfSome, All, filter, option_map, is_none, map, reverse, slice_get, bytes_eq, refl, sym, ap, subst, ◌∙◌, All-head, All-tail, range_with_len, filter_map, option_and_then, history_to, trees_to, location_in, segment_view, operative_of, is_in_range, AreSegments, same_location, segments_of, Hit, same_location-rename, IsTable, IsPathOf, components_of, same_name, NameId, DumpValue, history_in_bytes, history_view, location, MergeInfoValue, HasPathOf, eligible_in_range, merged_in_range, IsHeldIn, held_ranges_at, held_ranges_in, held_value, is_inherited, RevisionsByPath, eligible_at, found_in, is_eligible, merged_at, merged_revision, operative_location, value_has, eligible_by_hit, eligible_by_hits, has_in, has_revision, is_eligible_at, lent_ranges, merged_by_hit, merged_by_hits, segment_path, PathRev, IsPathIn, peg_in_bytes, trees_in_bytes}
 use Rattle.path_index.specs.declared.segment.Segment.{Segment as KeptSegment}
-use Rattle.path_index.proofs.Renaming.{same_location-rename}
-use Rattle.svn_path.specs.Names.{IsTable}
-use Rattle.svn_path.specs.Path.{IsPathOf, components_of, same_name}
-use Rattle.svn_path.specs.declared.names.NameId.{NameId}
-use Rattle.svn_dump.specs.Dump.{DumpValue, history_in_bytes, history_view}
-use Rattle.svn_dump.specs.Location.{location}
 use Rattle.merge_info.specs.Inherited.{inherited_revision}
-use Rattle.merge_info.specs.Value.{MergeInfoValue}
-use Rattle.query_answer.specs.Answer.{HasPathOf, eligible_in_range, merged_in_range}
-use Rattle.query_answer.specs.Held.{IsHeldIn, held_ranges_at, held_ranges_in, held_value, is_inherited}
-use Rattle.query_answer.specs.Merged.{RevisionsByPath, eligible_at, found_in, is_eligible, merged_at, merged_revision}
-use Rattle.query_answer.specs.Merged.{operative_location, value_has}
-use Rattle.query_answer.specs.SourceHits.{eligible_by_hit, eligible_by_hits, has_in, has_revision, is_eligible_at, lent_ranges, merged_by_hit, merged_by_hits, segment_path}
 use Rattle.query_answer.specs.declared.held_mergeinfo.HeldMergeinfo.{HeldMergeinfo}
-use Rattle.query_answer.specs.declared.target.PathRev.{PathRev}
 use Rattle.query_answer.specs.declared.verbs.source.SourceRanges.{SourceRanges}
-use Rattle.query_answer.specs.Repo.{IsPathIn, peg_in_bytes, trees_in_bytes}
 use Rattle.query_answer.proofs.HeldRevisions.{held-has, some_have}
 use Rattle.query_answer.proofs.InBytes.{alike, hits-index, location-in_bytes, location-index, name, segments-index, text, trees-renamed, trees_by_number}
 use Rattle.query_answer.proofs.OperativeLocations.{found-operative_of, found_in-rename, found_of_hit}

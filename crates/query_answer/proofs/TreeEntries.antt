@@ -1,19 +1,6 @@
 -- What each record of a history keeps of an entry holds of each entry of its trees.
-use Rattle.std.proofs.Common.{◌≡◌, ℕ, Bool, true, false, if◌then◌else◌, List, [], ◌∷◌, Option, None, Some, All, IfSome, filter_map, fold, length, map, take, drop, refl, subst}
-use Rattle.std.proofs.lemmas.Bool.{cond_both}
-use Rattle.std.proofs.lemmas.List.Elements.{All-nil, All-cons, All-head, All-tail, All-append, All-push, All-map, All-weaker, All-filter, All-take, All-drop}
-use Rattle.std.proofs.lemmas.Option.{none-some, same_Some}
-use Rattle.std.specs.List.{cons_option}
-use Rattle.svn_dump.specs.Dump.{DumpValue, IsDump, IsRecordOf, records_by_revision, record_view, history_view}
-use Rattle.svn_dump.specs.History.{Setting, Action, delete, change, add, copy, Record, History}
-use Rattle.svn_dump.specs.Tree.{Tree, Entry, entry_at, tree_of, tree_without, tree_with_mergeinfo, entry_of_copy, tree_after_action, tree_after_record, first_tree, tree_from_revision, start_tree, end_tree, with_revision, trees_of}
-use Rattle.svn_dump.specs.declared.record.NodeRecord.{NodeRecord}
-use Rattle.svn_dump.specs.declared.record.ValueId.{ValueId}
-use Rattle.svn_dump.proofs.Revisions.{each_tree_push}
-use Rattle.svn_dump.proofs.Trees.{entry_from, new_entry, settled_entry}
-use Rattle.svn_path.specs.Below.{same_path}
-use Rattle.svn_path.specs.declared.names.NameId.{NameId}
-use Rattle.svn_path.proofs.Belows.{IsSame, same_path-is}
+use Rattle.query_answer.proofs.Common.{◌≡◌, ℕ, Bool, true, false, if◌then◌else◌, List, [], ◌∷◌, Option, None, Some, All, IfSome, fold, length, map, take, drop, refl, subst, cond_both, All-nil, All-cons, All-head, All-tail, All-append, All-push, All-map, All-weaker, All-filter, All-take, All-drop, none-some, same_Some, cons_option, DumpValue, IsDump, IsRecordOf, records_by_revision, record_view, history_view, Setting, Action, delete, change, add, copy, Record, History, Tree, Entry, entry_at, tree_of, tree_without, tree_with_mergeinfo, entry_of_copy, tree_after_action, tree_after_record, first_tree, tree_from_revision, start_tree, end_tree, with_revision, trees_of, NodeRecord, ValueId, each_tree_push, entry_from, new_entry, settled_entry, same_path, NameId, IsSame, same_path-is}
+use Rattle.std.proofs.Common.{filter_map}
 
 -- what holds of each thing that a list's elements give
 All-filter_map : {X Y : Type 0} (h : X → Option Y) (P : Y → Type 0) (xs : List X) → All (λ x. IfSome (h x) P) xs → All P (filter_map h xs)

@@ -1,19 +1,8 @@
 -- What holds of each component of a history's paths holds of what its locations find.
-use Rattle.std.proofs.Common.{◌≡◌, ℕ, zero, suc, ◌<◌, ◌==◌, nat_lt, Bool, true, false, if◌then◌else◌, List, [], ◌∷◌, ◌++◌, Option, None, Some, All, IfSome, option_map, length, refl, subst}
-use Rattle.std.proofs.lemmas.List.Elements.{All-nil, All-cons, All-tail, All-append}
-use Rattle.std.proofs.lemmas.Option.{none-some, same_Some, option_and_then_some}
-use Rattle.svn_dump.specs.Dump.{DumpValue, IsDump, IsActOf, action_view, history_view}
-use Rattle.svn_dump.specs.History.{Action, delete, change, add, copy, Record, History}
-use Rattle.svn_dump.specs.Location.{origin_of, location_within, location}
-use Rattle.svn_dump.specs.Tree.{Entry, entry_at, tree_of, entry_of_copy, trees_of}
+use Rattle.query_answer.proofs.Common.{◌≡◌, ℕ, zero, suc, ◌<◌, ◌==◌, nat_lt, Bool, true, false, if◌then◌else◌, List, [], ◌∷◌, ◌++◌, Option, None, Some, All, IfSome, option_map, length, refl, subst, All-nil, All-cons, All-tail, All-append, none-some, same_Some, option_and_then_some, DumpValue, IsDump, IsActOf, action_view, history_view, Action, delete, change, add, copy, Record, History, origin_of, location_within, location, Entry, entry_at, tree_of, entry_of_copy, trees_of, entry_from, below, same_name, IsPathOf, NameId, IsSame, IsSame-same_name}
 use Rattle.svn_dump.specs.declared.record.Act.{Act}
 use Rattle.svn_dump.specs.declared.record.Act.TheVariants as act
 use Rattle.svn_dump.proofs.Locations.{not_past}
-use Rattle.svn_dump.proofs.Trees.{entry_from}
-use Rattle.svn_path.specs.Below.{below}
-use Rattle.svn_path.specs.Path.{same_name, IsPathOf}
-use Rattle.svn_path.specs.declared.names.NameId.{NameId}
-use Rattle.svn_path.proofs.Belows.{IsSame, IsSame-same_name}
 use Rattle.query_answer.proofs.TreeEntries.{ActionKeeps, IsKept, entry_at-has, history_has}
 
 -- the components of the source have it

@@ -1,21 +1,9 @@
 -- What holds of each mergeinfo that a history's records put holds of each mergeinfo of its trees.
-use Rattle.std.proofs.Common.{◌≡◌, ℕ, ◌<◌, Bool, List, [], ◌++◌, Option, None, Some, All, IfSome, option_map, length, subst}
-use Rattle.std.proofs.lemmas.List.Elements.{All-nil, All-cons}
-use Rattle.std.proofs.lemmas.Option.{option_and_then_some}
-use Rattle.svn_dump.specs.Dump.{DumpValue, IsDump, IsActOf, IsSettingOf, action_view, setting_view, history_view}
-use Rattle.svn_dump.specs.History.{Setting, keep, put, Action, delete, change, add, copy, History}
-use Rattle.svn_dump.specs.Tree.{Entry, entry_at, mergeinfo_after, entry_of_copy, tree_of, trees_of}
+use Rattle.query_answer.proofs.Common.{◌≡◌, ℕ, ◌<◌, Bool, List, [], ◌++◌, Option, None, Some, All, IfSome, option_map, length, subst, All-nil, All-cons, option_and_then_some, DumpValue, IsDump, IsActOf, IsSettingOf, action_view, setting_view, history_view, Setting, keep, put, Action, delete, change, add, copy, History, Entry, entry_at, mergeinfo_after, entry_of_copy, tree_of, trees_of, ValueId, entry_from, below, same_name, NameId, IsSame, IsSame-same_name, own_mergeinfo}
 use Rattle.svn_dump.specs.declared.record.Act.{Act}
 use Rattle.svn_dump.specs.declared.record.Act.TheVariants as act
 use Rattle.svn_dump.specs.declared.record.Mi.{Mi}
 use Rattle.svn_dump.specs.declared.record.Mi.TheVariants as mi
-use Rattle.svn_dump.specs.declared.record.ValueId.{ValueId}
-use Rattle.svn_dump.proofs.Trees.{entry_from}
-use Rattle.svn_path.specs.Below.{below}
-use Rattle.svn_path.specs.Path.{same_name}
-use Rattle.svn_path.specs.declared.names.NameId.{NameId}
-use Rattle.svn_path.proofs.Belows.{IsSame, IsSame-same_name}
-use Rattle.query_answer.specs.Effective.{own_mergeinfo}
 use Rattle.query_answer.proofs.TreeEntries.{ActionKeeps, IsKept, entry_at-has, history_has}
 
 -- the mergeinfo that is put has it, if there is some

@@ -1,18 +1,10 @@
 -- What a worker knows at first, and once a reading that borrows from it has ended.
-use Rattle.std.proofs.Common.{◌≡◌, ℕ, ◌≤◌, List, Option, Some, None, IsFalse, length, slice_get, inl, inr, refl, sym, subst, ◌∙◌}
-use Rattle.std.proofs.lemmas.Bool.{both_ways}
-use Rattle.std.specs.Prelude.{Result, Ok, Err, MatchResult, OnOk}
+use Rattle.query_answer.proofs.Common.{◌≡◌, ℕ, ◌≤◌, List, Option, Some, None, IsFalse, length, slice_get, inl, inr, refl, sym, subst, ◌∙◌, both_ways, Result, Ok, Err, MatchResult, OnOk, needs_mergeinfo, PegValue, IsPairRefused, IsPegRefused, given, Memory, Refused, DumpValue}
 use Rattle.value_memo.specs.SeenValue.{IsAnswered, SeenValue, nothing_seen}
 use Rattle.value_memo.proofs.Callers.{AsksOnly-answered, AsksOnly-nothing_seen}
-use Rattle.query_answer.specs.Answer.{needs_mergeinfo}
-use Rattle.query_answer.specs.Peg.{PegValue}
-use Rattle.query_answer.specs.Repo.{IsPairRefused, IsPegRefused}
-use Rattle.query_answer.specs.Unanswered.{given}
 use Rattle.query_answer.specs.Worker.{IsSeenOf, IsUnreadWhereRefused, Knows, KnowsWhatWasRead, LooksAtMergeinfo, MayLearn, Reads}
 use Rattle.query_answer.specs.declared.status.Status.{Status}
 use Rattle.query_answer.specs.declared.unanswered.Unanswered.{Unanswered}
-use Rattle.query_answer.specs.declared.unanswered.Unanswered.TheVariants.{Memory, Refused}
-use Rattle.svn_dump.specs.Dump.{DumpValue}
 use Rattle.query_answer.specs.declared.answers.Answer.{Answer as KeptAnswer}
 use Rattle.std.specs.declared.alloc.AllocError.{AllocError}
 

@@ -1,16 +1,7 @@
 -- Results that are put into slots.
-use Rattle.std.proofs.Common.{◌≡◌, ◌≢◌, ℕ, zero, suc, ◌<◌, ◌≤◌, List, [], ◌∷◌, ◌++◌, Option, None, Some, inl, inr, length, replicate, set, refl, sym, subst, ap, ◌∙◌, append_assoc, arith}
-use Rattle.std.specs.Prelude.{if◌then◌else◌, nat_lt, slice_get}
-use Rattle.std.proofs.lemmas.Bool.Decides.{eqb_tells, nat_tests}
+use Rattle.query_pool.proofs.Common.{◌≡◌, ◌≢◌, ℕ, zero, suc, ◌<◌, ◌≤◌, List, [], ◌∷◌, ◌++◌, Option, None, Some, inl, inr, length, replicate, set, refl, sym, subst, ap, ◌∙◌, append_assoc, arith, slice_get, eqb_tells, nat_tests, get_or-replicate, get_or-set_same, length-replicate, length-set, All-nil, All-push, All-weaker, none-some, same_Some, slice_get_cases, slice_get-get_or, slice_get_past, slice_get_within, HasEachAtMostOnce, IsFirstMisplaced, IsGatherError, count_at, results_of, Adds, Holds, IsAddError, count_in, GatherError, Stranger, Double}
+use Rattle.std.specs.Prelude.{if◌then◌else◌, nat_lt}
 use Rattle.std.proofs.lemmas.Grind.{flat_map-append}
-use Rattle.std.proofs.lemmas.List.{get_or-replicate, get_or-set_same, length-replicate, length-set}
-use Rattle.std.proofs.lemmas.List.Elements.{All-nil, All-push, All-weaker}
-use Rattle.std.proofs.lemmas.Option.{none-some, same_Some, slice_get_cases, slice_get-get_or, slice_get_past, slice_get_within}
-use Rattle.query_pool.specs.Gathering.{HasEachAtMostOnce, IsFirstMisplaced, IsGatherError}
-use Rattle.query_pool.specs.Serving.{count_at, results_of}
-use Rattle.query_pool.specs.Slots.{Adds, Holds, IsAddError, count_in}
-use Rattle.query_pool.specs.declared.error.GatherError.{GatherError}
-use Rattle.query_pool.specs.declared.error.GatherError.TheVariants.{Stranger, Double}
 use Rattle.query_pool.specs.declared.part.Part.{Part}
 use Rattle.query_pool.proofs.Counts.{count_at-append, count_at-other, count_at-same}
 

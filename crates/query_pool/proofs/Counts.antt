@@ -1,10 +1,6 @@
 -- How many results there are for a place.
-use Rattle.std.proofs.Common.{◌≡◌, ◌≢◌, ℕ, ◌+◌, ◌<◌, List, [], ◌∷◌, ◌++◌, All, inl, inr, length, subst, ap, ◌∙◌, arith}
+use Rattle.query_pool.proofs.Common.{◌≡◌, ◌≢◌, ℕ, ◌+◌, ◌<◌, List, [], ◌∷◌, ◌++◌, All, inl, inr, length, subst, ap, ◌∙◌, arith, eqb_tells, nat_tests, length-append, All-head, All-tail, filter-append, count_at}
 use Rattle.std.specs.Prelude.{◌==◌}
-use Rattle.std.proofs.lemmas.Bool.Decides.{eqb_tells, nat_tests}
-use Rattle.std.proofs.lemmas.List.{length-append}
-use Rattle.std.proofs.lemmas.List.Elements.{All-head, All-tail, filter-append}
-use Rattle.query_pool.specs.Serving.{count_at}
 
 module _ {X : Type 0} (place : ℕ) where
   pub count_at-append : (front back : List (ℕ × X)) → count_at place (front ++ back) ≡ count_at place front + count_at place back

@@ -1,12 +1,5 @@
 -- What the results of parts say of the results that are gathered from them.
-use Rattle.std.proofs.Common.{◌≡◌, ℕ, ◌+◌, ◌<◌, List, All, Some, length, refl, sym, subst, ap, ◌∙◌, arith}
-use Rattle.std.specs.Prelude.{slice_get}
-use Rattle.std.proofs.lemmas.Bool.Decides.{nat_tests}
-use Rattle.std.proofs.lemmas.Option.{same_Some, slice_get_within}
-use Rattle.query_pool.specs.Gathering.{IsFirstMisplaced, IsGatherError, StandsAtItsPlace}
-use Rattle.query_pool.specs.Serving.{HasEachOnce, count_at}
-use Rattle.query_pool.specs.declared.error.GatherError.{GatherError}
-use Rattle.query_pool.specs.declared.error.GatherError.TheVariants.{Stranger, Double, Missing, Memory}
+use Rattle.query_pool.proofs.Common.{◌≡◌, ℕ, ◌+◌, ◌<◌, List, All, Some, length, refl, sym, subst, ap, ◌∙◌, arith, slice_get, nat_tests, same_Some, slice_get_within, IsFirstMisplaced, IsGatherError, StandsAtItsPlace, HasEachOnce, count_at, GatherError, Stranger, Double, Missing, Memory}
 use Rattle.query_pool.proofs.Counts.{at_place, count_at-append, count_at-same}
 
 module _ {X : Type 0} (n : ℕ) (results : List (ℕ × X)) (once : HasEachOnce n results) where

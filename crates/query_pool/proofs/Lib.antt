@@ -1,3 +1,4 @@
+mod Common
 mod Adding
 mod Counts
 pub mod Gathered

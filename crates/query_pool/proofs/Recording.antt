@@ -1,15 +1,8 @@
 -- Results for the places that are taken.
-use Rattle.std.proofs.Common.{◌≡◌, ℕ, ◌<◌, ◌==◌, Bool, true, false, if◌then◌else◌, All, List, [], ◌∷◌, ◌++◌, length, refl, sym, subst, ap, ◌∙◌, append_assoc, nat_lt, arith}
+use Rattle.query_pool.proofs.Common.{◌≡◌, ℕ, ◌<◌, ◌==◌, Bool, true, false, if◌then◌else◌, All, List, [], ◌∷◌, ◌++◌, length, refl, sym, subst, ap, ◌∙◌, append_assoc, nat_lt, arith, append-nil, flat_map_more, All-append, All-cons, All-head, All-nil, All-tail, worker_view, HandsOver, results_in, HasEachOnce, count_at, results_of, Finishes, HasTakenAll, Records, Serves, Takes, after_split, joined, split_off, times, Tally}
 use Rattle.std.specs.Global.{Vec}
-use Rattle.std.proofs.lemmas.List.{append-nil, flat_map_more}
-use Rattle.std.proofs.lemmas.List.Elements.{All-append, All-cons, All-head, All-nil, All-tail}
-use Rattle.crossbeam_deque.specs.Handles.{worker_view}
-use Rattle.query_pool.specs.Calling.{HandsOver, results_in}
-use Rattle.query_pool.specs.Serving.{HasEachOnce, count_at, results_of}
-use Rattle.query_pool.specs.Stealing.{Finishes, HasTakenAll, Records, Serves, Takes, after_split, joined, split_off, times}
 use Rattle.query_pool.specs.declared.part.Part.{Part}
 use Rattle.query_pool.specs.declared.caller.Caller.{Caller}
-use Rattle.query_pool.specs.declared.deque.Tally.{Tally}
 use Rattle.query_pool.proofs.Counts.{count_at-append}
 use Rattle.query_pool.proofs.Stealing.{times-append, times-one}
 

@@ -1,16 +1,10 @@
 -- Each event keeps the rule of the deque.
-use Rattle.std.proofs.Common.{Bool, true, false, drop, get_or, ◌≡◌, ℕ, zero, suc, ◌+◌, ◌<◌, ◌==◌, All, List, [], ◌∷◌, ◌++◌, length, set, if◌then◌else◌, nat_lt, refl, sym, subst, ap, ◌∙◌, arith}
+use Rattle.query_pool.proofs.Common.{Bool, true, false, drop, get_or, ◌≡◌, ℕ, zero, suc, ◌+◌, ◌<◌, ◌==◌, All, List, [], ◌∷◌, ◌++◌, length, set, if◌then◌else◌, nat_lt, refl, sym, subst, ap, ◌∙◌, arith, nat_tests, length-append, set-set, All-cons, All-head, All-nil, All-push, All-set, All-tail, All-weaker, filter-append, most_workers, IsInformed, IsShared, LooksEmpty, Puts, Takes, after_split, joined, spent, split_off, tally, times, times_taken, Tally}
 use mathlib.Core.Option.{some, some-ne-none, some-injective}
 use lib.ListN.{get_elem?}
 use Rattle.std.specs.List.{range_with_len, sum_by}
-use Rattle.std.proofs.lemmas.Bool.Decides.{nat_tests}
-use Rattle.std.proofs.lemmas.List.{length-append, set-set}
-use Rattle.std.proofs.lemmas.List.Elements.{All-cons, All-head, All-nil, All-push, All-set, All-tail, All-weaker, filter-append}
 use Rattle.std.proofs.lemmas.List.Sums.{sum_by-cons, sum_by_push}
 use Rattle.crossbeam_deque.specs.Tasks.{Finds, Forks, Merges, Pushes, Takes as MayTake}
-use Rattle.query_pool.specs.Serving.{most_workers}
-use Rattle.query_pool.specs.Stealing.{IsInformed, IsShared, LooksEmpty, Puts, Takes, after_split, joined, spent, split_off, tally, times, times_taken}
-use Rattle.query_pool.specs.declared.deque.Tally.{Tally}
 
 -- ---- lists of passes
 

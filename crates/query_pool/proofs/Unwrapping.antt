@@ -1,14 +1,5 @@
 -- Results that are taken from slots.
-use Rattle.std.proofs.Common.{◌≡◌, ℕ, zero, suc, ◌<◌, List, [], ◌∷◌, ◌++◌, Option, None, Some, length, map, option_map, refl, sym, subst, ap, ◌∙◌, arith}
-use Rattle.std.specs.Prelude.{slice_get}
-use Rattle.std.proofs.lemmas.List.{append-nil, length-map}
-use Rattle.std.proofs.lemmas.List.Elements.{All-weaker}
-use Rattle.std.proofs.lemmas.Option.{slice_get-map, slice_get_within}
-use Rattle.query_pool.specs.Gathering.{HasEachAtMostOnce, IsGatherError, StandsAtItsPlace}
-use Rattle.query_pool.specs.Serving.{HasEachOnce}
-use Rattle.query_pool.specs.Slots.{Holds, IsFirstEmpty, IsUnwrapError, count_in}
-use Rattle.query_pool.specs.declared.error.GatherError.{GatherError}
-use Rattle.query_pool.specs.declared.error.GatherError.TheVariants.{Stranger, Double, Missing, Memory}
+use Rattle.query_pool.proofs.Common.{◌≡◌, ℕ, zero, suc, ◌<◌, List, [], ◌∷◌, ◌++◌, Option, None, Some, length, map, option_map, refl, sym, subst, ap, ◌∙◌, arith, slice_get, append-nil, length-map, All-weaker, slice_get-map, slice_get_within, HasEachAtMostOnce, IsGatherError, StandsAtItsPlace, HasEachOnce, Holds, IsFirstEmpty, IsUnwrapError, count_in, GatherError, Stranger, Double, Missing, Memory}
 use Rattle.query_pool.proofs.Adding.{at_most_once, count_in-past, one_within}
 
 module _ {X : Type 0} where

@@ -1,8 +1,6 @@
 -- Paths that are the same, and paths at or under another, under a test that decides equality.
-use Rattle.std.proofs.Common.{◌≡◌, Bool, false, List, [], ◌∷◌, ◌++◌, None, Some, append-nil, refl, sym, ap, ◌∙◌, arith}
-use Rattle.std.specs.Option.{option_map_or}
-use Rattle.svn_path.specs.Below.{below, same_path}
-use Rattle.svn_path.proofs.Belows.{IsSame, IsSame-same_path, append-from_below, below-append, same_path-is}
+use Rattle.svn_dump.proofs.Common.{◌≡◌, Bool, false, List, [], ◌∷◌, ◌++◌, append-nil, refl, sym, ap, ◌∙◌, arith, option_map_or, below, same_path, IsSame, IsSame-same_path, append-from_below, below-append, same_path-is}
+use Rattle.std.proofs.Common.{None, Some}
 
 module _ {C : Type 0} (same : C → C → Bool) (is : IsSame same) where
   -- ---- the same path

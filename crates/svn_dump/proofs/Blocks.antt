@@ -1,24 +1,7 @@
 -- Blocks at the front of the bytes, and what stands against them.
-use Rattle.std.proofs.Common.{◌≡◌, ℕ, ◌+◌, ◌<◌, ◌≤◌, Bool, true, false, List, [], ◌∷◌, ◌++◌, length, take, drop, refl, sym, ap, ap₂, ◌∙◌, inl, inr, append_assoc, append-nil, arith, lt-ltb, Bor}
-use Rattle.std.specs.Prelude.{Option, Some, None, IsFalse, count_by, flat_map, is_none, not, ◌||◌, nat_lt, unwrap_or, ◌==◌, MatchOption}
-use Rattle.std.specs.List.{list_any}
-use Rattle.std.proofs.lemmas.Bool.{both_ways, cases_Bool, cond-true, cond-false, or_parts, or_right}
-use Rattle.std.proofs.lemmas.Grind.{flat_map-append}
-use Rattle.std.proofs.lemmas.List.{take-append-drop, length-take-le}
-use Rattle.std.proofs.lemmas.List.Elements.{All-push}
-use Rattle.std.proofs.lemmas.List.Folds.{list_any-append}
-use Rattle.std.proofs.lemmas.List.Sums.{sum_by-append}
-use Rattle.svn_text.specs.Bytes.{is_colon, is_not_empty}
-use Rattle.svn_dump.specs.Block.{IsHeader, body_length, header_name, is_header_named, length_or_zero, listed_names, properties_length}
-use Rattle.svn_text.specs.Line.{is_newline, line_text}
-use Rattle.svn_dump.specs.Field.{fields_of}
-use Rattle.svn_dump.specs.FirstRefusal.{after_lines, begins_with_newline, body_length_at, front_refusals, has_twice, header_lines, is_cut, is_no_header}
-use Rattle.svn_dump.specs.FrontBlock.{BeginsWithLines, BeginsWithBlock, IsUnfinished}
-use Rattle.svn_dump.specs.Headers.{AreHeaders, AreOnce}
-use Rattle.svn_dump.specs.Refusal.{first_holding}
-use Rattle.svn_dump.specs.HeaderValues.{body_length_from_headers, field_value}
-use Rattle.svn_dump.specs.declared.grammar.field.Field.TheVariants.{PropertiesLength}
-use Rattle.svn_dump.specs.declared.refusal.Refusal.TheVariants.{Header, Length, Truncated}
+use Rattle.svn_dump.proofs.Common.{◌≡◌, ℕ, ◌+◌, ◌<◌, ◌≤◌, Bool, true, false, List, [], ◌∷◌, ◌++◌, length, take, drop, refl, sym, ap, ap₂, ◌∙◌, inl, inr, append_assoc, append-nil, arith, lt-ltb, Bor, Option, Some, None, IsFalse, count_by, flat_map, is_none, nat_lt, unwrap_or, ◌==◌, MatchOption, list_any, both_ways, cases_Bool, cond-true, cond-false, or_parts, or_right, flat_map-append, length-take-le, All-push, list_any-append, sum_by-append, is_colon, is_not_empty, IsHeader, body_length, header_name, is_header_named, length_or_zero, listed_names, properties_length, is_newline, line_text, fields_of, after_lines, begins_with_newline, body_length_at, front_refusals, has_twice, header_lines, is_cut, is_no_header, BeginsWithLines, BeginsWithBlock, IsUnfinished, AreHeaders, AreOnce, first_holding, body_length_from_headers, field_value, PropertiesLength, Header, Length, Truncated}
+use Rattle.std.specs.Prelude.{not, ◌||◌}
+use Rattle.std.proofs.lemmas.List.{take-append-drop}
 use Rattle.svn_dump.proofs.Fronts.{after_lines-lines, has_twice-once, header_lines-empty, header_lines-line, header_lines-lines, header_lines-unfinished, list_any-no_header, once-has_twice}
 
 -- one more header line

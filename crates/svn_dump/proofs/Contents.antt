@@ -1,16 +1,5 @@
 -- What a block is, by the values of its headers.
-use Rattle.std.proofs.Common.{◌≡◌, ℕ, Bool, List, [], ◌∷◌, length, take, refl, sym, ap, ap₂, ◌∙◌}
-use Rattle.std.specs.Prelude.{Option, Some, None, option_map}
-use Rattle.svn_dump.specs.Block.{Block, properties_length}
-use Rattle.svn_dump.specs.Field.{fields_of}
-use Rattle.svn_dump.specs.FrontBlock.{BeginsWithBlock}
-use Rattle.svn_dump.specs.Node.{Node, node_block, other_block, revision_block, content_by_fields, uuid_block}
-use Rattle.svn_dump.specs.Property.{section_of, setting_by, setting_of}
-use Rattle.svn_dump.specs.Record.{has_changes, is_delta, node_action_of, node_of_block, content_of}
-use Rattle.svn_dump.specs.HeaderValues.{has_changes_from_headers, is_delta_from_headers, node_from_headers, setting_from_section, content_from_headers, field_value}
-use Rattle.svn_dump.specs.declared.grammar.format.Format.{Format}
-use Rattle.svn_dump.specs.declared.grammar.format.Format.TheVariants.{Two, Three}
-use Rattle.svn_dump.specs.declared.grammar.field.Field.TheVariants.{RevisionNumber, NodePath, Uuid}
+use Rattle.svn_dump.proofs.Common.{◌≡◌, ℕ, Bool, List, [], ◌∷◌, length, take, refl, sym, ap, ap₂, ◌∙◌, Option, Some, None, option_map, Block, properties_length, fields_of, BeginsWithBlock, Node, node_block, other_block, revision_block, content_by_fields, uuid_block, section_of, setting_by, setting_of, has_changes, is_delta, node_action_of, node_of_block, content_of, has_changes_from_headers, is_delta_from_headers, node_from_headers, setting_from_section, content_from_headers, field_value, Format, Two, Three, RevisionNumber, NodePath, Uuid}
 
 -- a section at the front of the body
 setting_of-front : (changes : Bool) (section : Option ℕ) (properties body : List ℕ) → section ≡ Some (length properties) → properties ≡ take (length properties) body → setting_from_section changes properties ≡ setting_of changes section body

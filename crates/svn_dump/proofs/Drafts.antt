@@ -1,25 +1,8 @@
 -- A dump that is read gets a revision or a record.
-use Rattle.std.proofs.Common.{◌≡◌, ◌≢◌, ℕ, pred, ◌-◌, ◌<◌, ◌≤◌, true, false, List, [], ◌∷◌, ◌++◌, length, get_or, refl, sym, ap, ap₂, ◌∙◌, subst, arith, Bool, eqb, eq-eqb, le-leb, le-ltb, ltb-false, not, inl, inr}
-use Rattle.std.specs.Prelude.{Option, Some, None, bytes_eq, is_none, option_map, option_and_then, if◌then◌else◌, ◌==◌, nat_le, nat_lt}
-use Rattle.std.specs.List.{IsDistinct}
-use Rattle.std.specs.Option.{option_eq}
-use Rattle.std.proofs.lemmas.Bool.{both_ways, cases_Bool, cond-false, cond-true, leb-false, lt-leb, ne_eqb, not-true, or_from, or_parts}
-use Rattle.std.proofs.lemmas.List.{map_push, length_push}
-use Rattle.std.proofs.lemmas.List.Elements.{All-push}
-use Rattle.std.proofs.lemmas.Option.{cond_some}
-use Rattle.svn_path.specs.Names.{IsTable, with_names}
+use Rattle.svn_dump.proofs.Common.{◌≡◌, ◌≢◌, ℕ, pred, ◌-◌, ◌<◌, ◌≤◌, true, false, List, [], ◌∷◌, ◌++◌, length, get_or, refl, sym, ap, ap₂, ◌∙◌, subst, arith, Bool, eqb, eq-eqb, le-leb, ltb-false, not, inl, inr, Option, Some, None, bytes_eq, is_none, option_map, option_and_then, ◌==◌, nat_le, nat_lt, IsDistinct, option_eq, both_ways, cases_Bool, cond-false, cond-true, leb-false, lt-leb, ne_eqb, not-true, or_from, or_parts, map_push, length_push, All-push, cond_some, IsTable, with_names, Extends, action_in_bytes, record_in_bytes, dump_of, is_full, only_tables, IsDraft, IsNamed, IsValued, IsWholeHistory, DumpValue, IsDump, IsRecordOf, history_in_bytes, IsSmall, all_records, names_of, values_of, most_numbered, parts_of_record, texts_of_action, Node, node_block, revision_block, number_of, number_up_to, HistoryOfBytes, RecordOfBytes, record_of, with_numbered, with_record, with_content, first_holding, grows_large, is_large, node_refusals, refusals_by, content_refusals, IsFirstReason, IsNumberedRecord, is_record_large, ReadError, NodeRecord, Revision, TooLarge}
+use Rattle.std.proofs.Common.{le-ltb}
+use Rattle.std.specs.Prelude.{if◌then◌else◌}
 use Rattle.svn_path.proofs.Tables.{IsTable-nil}
-use Rattle.svn_dump.specs.Draft.{Extends, action_in_bytes, record_in_bytes, dump_of, is_full, only_tables, IsDraft, IsNamed, IsValued, IsWholeHistory}
-use Rattle.svn_dump.specs.Dump.{DumpValue, IsDump, IsRecordOf, history_in_bytes}
-use Rattle.svn_dump.specs.DumpText.{IsSmall, all_records, names_of, values_of, most_numbered, parts_of_record, texts_of_action}
-use Rattle.svn_dump.specs.Node.{Node, node_block, revision_block}
-use Rattle.svn_text.specs.Number.{number_of, number_up_to}
-use Rattle.svn_dump.specs.Record.{HistoryOfBytes, RecordOfBytes, record_of, with_numbered, with_record, with_content}
-use Rattle.svn_dump.specs.Refusal.{first_holding, grows_large, is_large, node_refusals, refusals_by, content_refusals}
-use Rattle.svn_dump.specs.NumberedRecord.{IsFirstReason, IsNumberedRecord, is_record_large}
-use Rattle.svn_dump.specs.declared.read_error.ReadError.{ReadError}
-use Rattle.svn_dump.specs.declared.record.NodeRecord.{NodeRecord}
-use Rattle.svn_dump.specs.declared.refusal.Refusal.TheVariants.{Revision, TooLarge}
 use Rattle.svn_dump.proofs.FirstRefusals.{small_nothing}
 use Rattle.svn_dump.proofs.Growing.{Extends-same, Extends-by, IsRecordOf-grows, All-IsRecordOf-grows}
 use Rattle.svn_dump.proofs.Grouped.{with_more, length-with_more, get_or-le-total, revisions_from-with_more, revisions_from-with_group}

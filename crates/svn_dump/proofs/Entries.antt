@@ -1,12 +1,6 @@
 -- What holds of every entry of a tree, through each operation on trees.
-use Rattle.std.proofs.Common.{ℕ, Bool, List, [], ◌∷◌, ◌++◌, Option, None, Some, All, IfSome, option_map, filter_map, fold, length}
-use Rattle.std.proofs.lemmas.Bool.{cond_both}
-use Rattle.std.proofs.lemmas.List.Elements.{All-nil, All-cons, All-head, All-tail, All-append, All-push, All-filter, All-map, All-weaker}
-use Rattle.std.specs.List.{cons_option}
-use Rattle.svn_path.specs.Below.{below, same_path}
-use Rattle.svn_dump.specs.History.{Setting, Action, delete, change, add, copy, Record}
-use Rattle.svn_dump.specs.Tree.{Tree, Entry, entry_at, mergeinfo_after, tree_without, tree_with_mergeinfo, entry_of_copy, tree_of, tree_after_action, tree_after_record, tree_from_revision, start_tree, end_tree}
-use Rattle.svn_dump.specs.declared.record.Kind.{Kind}
+use Rattle.svn_dump.proofs.Common.{ℕ, Bool, List, [], ◌∷◌, ◌++◌, IfSome, filter_map, fold, length, cond_both, All-nil, All-cons, All-head, All-tail, All-append, All-push, All-filter, All-map, All-weaker, cons_option, below, same_path, Setting, Action, delete, change, add, copy, Record, Tree, Entry, entry_at, mergeinfo_after, tree_without, tree_with_mergeinfo, entry_of_copy, tree_of, tree_after_action, tree_after_record, tree_from_revision, start_tree, end_tree, Kind}
+use Rattle.std.proofs.Common.{Option, None, Some, All, option_map}
 use Rattle.svn_dump.specs.declared.record.Kind.TheVariants.{Dir}
 use Rattle.svn_dump.proofs.Trees.{settled_entry, entry_from}
 

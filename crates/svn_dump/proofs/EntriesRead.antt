@@ -1,9 +1,6 @@
 -- The entries of a property section: their form and their reading.
-use Rattle.std.proofs.Common.{◌≡◌, ℕ, ◌<◌, Bool, true, false, List, [], ◌∷◌, ◌++◌, length, refl, sym, ap, ap₂, subst, ◌∙◌, append_assoc, arith, length-append}
-use Rattle.std.specs.Prelude.{Option, Some, None, IsTrue, bytes_eq, option_and_then, option_map, if◌then◌else◌}
-use Rattle.std.specs.Option.{option_or}
-use Rattle.std.proofs.lemmas.Option.{none-some, same_Some}
-use Rattle.svn_dump.specs.Property.{SectionEntry, IsSectionEntry, IsPiece, deleted_entry_of, entry_of, piece_of, section_end, valued_entry_of}
+use Rattle.svn_dump.proofs.Common.{◌≡◌, ℕ, ◌<◌, Bool, true, false, List, [], ◌∷◌, ◌++◌, length, refl, sym, ap, ap₂, subst, ◌∙◌, append_assoc, arith, length-append, Option, Some, None, IsTrue, bytes_eq, option_and_then, option_map, option_or, none-some, same_Some, SectionEntry, IsSectionEntry, IsPiece, deleted_entry_of, entry_of, piece_of, section_end, valued_entry_of}
+use Rattle.std.specs.Prelude.{if◌then◌else◌}
 use Rattle.svn_dump.proofs.SectionPieces.{IsPieceRead, IsPieceRead-Some, length-piece, piece_of-read}
 
 -- ---- pieces

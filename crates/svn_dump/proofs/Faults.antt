@@ -1,10 +1,7 @@
 -- The first fault of a history, one record and one revision after another.
-use Rattle.std.proofs.Common.{◌≡◌, ℕ, ◌+◌, Bool, List, [], ◌∷◌, None, Some, flat_map, length, refl, ap, length-append}
-use Rattle.std.specs.Option.{option_or}
-use Rattle.svn_dump.specs.History.{Setting, delete, change, add, copy, Record, History}
-use Rattle.svn_dump.specs.Tree.{Tree, tree_after_record, start_tree, with_revision}
+use Rattle.svn_dump.proofs.Common.{◌≡◌, ℕ, ◌+◌, Bool, List, [], ◌∷◌, length, refl, ap, length-append, option_or, Setting, delete, change, add, copy, Record, History, Tree, tree_after_record, start_tree, with_revision, Kind}
+use Rattle.std.proofs.Common.{None, Some, flat_map}
 use Rattle.svn_dump.specs.Fault.{Fault, fault_if_missing, fault_of_target, fault_of_source, fault_of, first_fault_in, first_fault_from}
-use Rattle.svn_dump.specs.declared.record.Kind.{Kind}
 
 -- how many records a history has
 abbrev pub record_count : {C M : Type 0} → History C M → ℕ

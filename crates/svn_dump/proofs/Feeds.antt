@@ -1,13 +1,6 @@
 -- What a feed has read, and the error that it answers.
-use Rattle.std.proofs.Common.{◌≡◌, ℕ, ◌+◌, List, [], ◌++◌, length, sym, ap, subst, ◌∙◌, append-nil, length-append, arith}
-use Rattle.std.specs.Prelude.{None, Some}
-use Rattle.svn_dump.specs.Decided.{IsDecidedError}
-use Rattle.svn_dump.specs.DumpError.{IsFirstAt, IsRefusal}
+use Rattle.svn_dump.proofs.Common.{◌≡◌, ℕ, ◌+◌, List, [], ◌++◌, length, sym, ap, subst, ◌∙◌, append-nil, length-append, arith, None, Some, IsDecidedError, IsFirstAt, IsRefusal, line_refusals, HasReadAll, first_holding, DumpError}
 use Rattle.svn_dump.specs.Feed.{FeedValue, HasRead, HasReadOrRefused}
-use Rattle.svn_dump.specs.FirstRefusal.{line_refusals}
-use Rattle.svn_dump.specs.Reader.{HasReadAll}
-use Rattle.svn_dump.specs.Refusal.{first_holding}
-use Rattle.svn_dump.specs.declared.error.DumpError.{DumpError}
 use Rattle.svn_dump.specs.declared.error.DumpError.TheVariants as dump
 use Rattle.svn_dump.proofs.FirstRefusals.{first_line_taken}
 use Rattle.svn_dump.proofs.Readers.{IsDecidedError-more}

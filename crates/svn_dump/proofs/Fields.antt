@@ -1,20 +1,9 @@
 -- The headers that are read, by their indices, and what one more line makes of them.
-use Rattle.std.proofs.Common.{◌≡◌, ℕ, zero, suc, ◌+◌, ◌<◌, ◌≤◌, Bool, true, false, cond, List, [], ◌∷◌, ◌++◌, map, length, get_or, set, refl, sym, ap, ap₂, ◌∙◌, subst, inl, inr, arith, rules, Bor}
-use Rattle.std.specs.Prelude.{Option, Some, None, option_map, option_copied, is_some, All, IsFalse, bytes_eq, count_by, slice_get}
-use Rattle.std.specs.List.{IsDistinct}
-use Rattle.std.specs.Option.{option_or}
+use Rattle.svn_dump.proofs.Common.{◌≡◌, ℕ, zero, suc, ◌+◌, ◌<◌, ◌≤◌, Bool, true, false, cond, List, [], ◌∷◌, ◌++◌, map, length, get_or, set, refl, sym, ap, ap₂, ◌∙◌, subst, inl, inr, arith, rules, Bor, Option, Some, None, option_map, option_copied, is_some, All, IsFalse, bytes_eq, count_by, slice_get, IsDistinct, option_or, same_Some, slice_get_within, get_or_from_slice_get, slice_get-map, cases_Bool, cond-true, cond-false, both_ways, All-head, All-tail, All-from_recursion, sum_by-cons, sum_by_push, bytes_eq-Decides, field, is_header_named, header_name, header_value, listed_names, field_index, fields_of, AreHeaders, AreOnce, Uuid, RevisionNumber, NodePath, NodeKind, CopyfromRevision, CopyfromPath, PropertiesLength, TextLength, ContentLength, PropertiesDelta, TextDelta}
 use Rattle.std.proofs.lemmas.Cmp.{nat_list_eq_equiv}
-use Rattle.std.proofs.lemmas.Option.{same_Some, slice_get_within, get_or_from_slice_get, slice_get-map}
-use Rattle.std.proofs.lemmas.Bool.{cases_Bool, cond-true, cond-false, both_ways}
-use Rattle.std.proofs.lemmas.List.Elements.{All-head, All-tail, All-from_recursion}
-use Rattle.std.proofs.lemmas.List.Sums.{sum_by-cons, sum_by_push}
-use Rattle.std.proofs.lemmas.Slice.Eq.{bytes_eq-Decides}
-use Rattle.svn_dump.specs.Block.{field, is_header_named, header_name, header_value, listed_names}
-use Rattle.svn_dump.specs.Field.{field_index, fields_of}
-use Rattle.svn_dump.specs.Headers.{AreHeaders, AreOnce}
 use Rattle.svn_dump.specs.contracts.grammar.field.Field.{the_type}
 use Rattle.svn_dump.specs.declared.grammar.field.Field.{Field}
-use Rattle.svn_dump.specs.declared.grammar.field.Field.TheVariants.{Uuid, RevisionNumber, NodePath, NodeKind, NodeAction, CopyfromRevision, CopyfromPath, PropertiesLength, TextLength, ContentLength, PropertiesDelta, TextDelta}
+use Rattle.svn_dump.specs.declared.grammar.field.Field.TheVariants.{NodeAction}
 use denote.Enum.Declared.{tag_of}
 
 -- the number of a variant is its index

@@ -1,19 +1,7 @@
 -- The first line of a dump, and what stands against it.
-use Rattle.std.proofs.Common.{◌≡◌, ◌≢◌, ℕ, true, List, ◌∷◌, ◌++◌, length, take, drop, ◌&&◌, ◌||◌, refl, sym, ap, ap₂, ◌∙◌, take-append-drop, length-append, get_or, ◌-◌, arith, eq-eqb, eqb-true}
-use Rattle.std.specs.Prelude.{Some, None, IsFalse, is_none, nat_eq}
-use Rattle.std.specs.List.{before_first, list_any, position_or_len, starts_with}
-use Rattle.std.proofs.lemmas.Bool.{cond-false, cond-true, not_from_false, not_from_true, false_from_ne_true}
-use Rattle.std.proofs.lemmas.Slice.Eq.{slice_eq-Decides}
-use Rattle.std.proofs.Math.Seq.{drop-append_seam, take-append_seam}
-use Rattle.std.proofs.lemmas.List.{get_or-append_right, get_or_append_left}
-use Rattle.std.proofs.lemmas.List.Folds.{list_any-append}
-use Rattle.std.proofs.lemmas.List.Sums.{position_or_len_is}
-use Rattle.svn_text.specs.Line.{is_newline}
-use Rattle.svn_dump.specs.FirstRefusal.{format_of, line_refusals, magic}
-use Rattle.svn_dump.specs.Format.{format_of_version}
-use Rattle.svn_dump.specs.Refusal.{first_holding}
+use Rattle.svn_dump.proofs.Common.{◌≡◌, ◌≢◌, ℕ, true, List, ◌∷◌, ◌++◌, length, take, drop, ◌&&◌, ◌||◌, refl, sym, ap, ap₂, ◌∙◌, take-append-drop, length-append, get_or, ◌-◌, arith, eq-eqb, Some, None, IsFalse, is_none, nat_eq, before_first, list_any, position_or_len, starts_with, cond-false, cond-true, not_from_false, not_from_true, false_from_ne_true, slice_eq-Decides, drop-append_seam, take-append_seam, get_or-append_right, get_or_append_left, list_any-append, position_or_len_is, is_newline, format_of, line_refusals, magic, format_of_version, first_holding, Magic, Truncated, Version}
+use Rattle.std.proofs.Common.{eqb-true}
 use Rattle.svn_dump.proofs.Fronts.{All-none}
-use Rattle.svn_dump.specs.declared.refusal.Refusal.TheVariants.{Magic, Truncated, Version}
 
 -- bytes that begin so
 magic_there : (bytes : List ℕ) → starts_with nat_eq bytes magic ≡ true → bytes ≡ magic ++ drop (length magic) bytes

@@ -1,27 +1,7 @@
 -- No reason is told against bytes exactly where they are a dump, and a dump tells one history.
-use Rattle.std.proofs.Common.{◌≡◌, ◌≢◌, ◌↔◌, ℕ, zero, suc, ◌+◌, ◌-◌, ◌<◌, ◌≤◌, Bool, true, false, cond, not, ◌&&◌, ⊎_elim, inl, inr, List, [], ◌∷◌, ◌++◌, length, take, drop, replicate, refl, sym, ap, ap₂, subst, ◌∙◌, append_assoc, append-nil, arith, take-append-drop, length-append, length-drop}
-use Rattle.std.specs.Prelude.{Option, Some, None, All, bytes_eq, codes, flat_map, fold, is_none, nat_eq, option_and_then}
-use Rattle.std.specs.List.{after_first, before_first, list_any, position_or_len, starts_with}
-use Rattle.std.specs.Option.{option_or}
-use Rattle.std.proofs.lemmas.Bool.{both_ways, cases_Bool, cases_lt, cond-false, cond-true, eq-eqb, eqb-true, not-false, or_parts}
-use Rattle.std.proofs.lemmas.List.{take-append-le}
-use Rattle.std.proofs.lemmas.List.Elements.{All-head}
-use Rattle.std.proofs.lemmas.List.Folds.{fold_stays, list_any_none}
-use Rattle.std.proofs.lemmas.List.Sums.{fails_before_first, passes_at_first, split_at_first}
-use Rattle.std.proofs.lemmas.Option.{none-some, same_Some}
-use Rattle.std.proofs.lemmas.Slice.Eq.{bytes_eq-Decides, slice_eq-Decides}
-use Rattle.svn_text.specs.Bytes.{is_not_empty}
-use Rattle.svn_dump.specs.Block.{AreBlocks, Block, IsBlock, IsHeader, block_text}
-use Rattle.svn_text.specs.Line.{is_newline, line_text}
-use Rattle.svn_dump.specs.DumpText.{IsDumpText, IsSmall, first_line}
-use Rattle.svn_dump.specs.FirstRefusal.{RefusalAt, after_block, begins_with_newline, block_at, block_refusal, end_refusal, first_refusal, format_of, front_refusals, line_refusals, magic, refusal_from, refusal_or, without_empty_lines}
-use Rattle.svn_dump.specs.Format.{format_of_version, version}
-use Rattle.svn_dump.specs.Record.{HistoryOfBytes, history_of, content_of, with_block}
-use Rattle.svn_dump.specs.Refusal.{first_holding, content_refusals}
-use Rattle.svn_dump.specs.declared.grammar.format.Format.{Format}
-use Rattle.svn_dump.specs.declared.grammar.format.Format.TheVariants.{Two, Three}
-use Rattle.svn_dump.specs.declared.refusal.Refusal.{Refusal}
-use Rattle.svn_dump.specs.declared.refusal.Refusal.TheVariants.{Magic, Truncated, Version}
+use Rattle.svn_dump.proofs.Common.{◌≡◌, ◌≢◌, ◌↔◌, ℕ, zero, suc, ◌+◌, ◌-◌, ◌<◌, ◌≤◌, Bool, true, false, cond, not, ◌&&◌, ⊎_elim, inl, inr, List, [], ◌∷◌, ◌++◌, length, take, drop, replicate, refl, sym, ap, ap₂, subst, ◌∙◌, append_assoc, append-nil, arith, take-append-drop, length-append, length-drop, Option, Some, None, All, bytes_eq, codes, flat_map, is_none, nat_eq, option_and_then, after_first, before_first, list_any, position_or_len, starts_with, option_or, both_ways, cases_Bool, cases_lt, cond-false, cond-true, eqb-true, not-false, or_parts, take-append-le, All-head, fold_stays, list_any_none, fails_before_first, passes_at_first, split_at_first, none-some, same_Some, bytes_eq-Decides, slice_eq-Decides, is_not_empty, AreBlocks, Block, IsBlock, IsHeader, block_text, is_newline, line_text, IsDumpText, IsSmall, first_line, RefusalAt, after_block, begins_with_newline, block_at, block_refusal, end_refusal, first_refusal, format_of, front_refusals, line_refusals, magic, refusal_from, refusal_or, without_empty_lines, format_of_version, version, HistoryOfBytes, history_of, content_of, with_block, first_holding, content_refusals, Format, Two, Three, Refusal, Magic, Truncated, Version}
+use Rattle.std.specs.Prelude.{fold}
+use Rattle.std.proofs.lemmas.Bool.{eq-eqb}
 use Rattle.svn_dump.proofs.Fronts.{block-front, front-block, three_none, without_empty_lines-front, without_empty_lines-other, without_empty_lines-skip}
 use Rattle.svn_dump.proofs.Refusals.{IsSmall-before, first_holding-append, no_refusal, none_holds-append, refusal_none}
 

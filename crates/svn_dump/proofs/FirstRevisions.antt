@@ -1,9 +1,7 @@
 -- The first revisions of a history: their trees, origins and locations are those of the whole history.
-use Rattle.std.proofs.Common.{◌≡◌, ℕ, ◌+◌, ◌<◌, ◌≤◌, Bool, List, option_and_then, take, drop, length, sym, ap, ◌∙◌, arith}
-use Rattle.std.proofs.lemmas.List.{length-take-le, take-append-drop}
-use Rattle.svn_dump.specs.History.{History}
-use Rattle.svn_dump.specs.Location.{origin_of, location}
-use Rattle.svn_dump.specs.Tree.{entry_at, is_there, tree_of, trees_of}
+use Rattle.svn_dump.proofs.Common.{◌≡◌, ℕ, ◌+◌, ◌<◌, ◌≤◌, Bool, List, take, drop, length, sym, ap, ◌∙◌, arith, length-take-le, History, origin_of, location, entry_at, is_there, tree_of, trees_of}
+use Rattle.std.proofs.Common.{option_and_then}
+use Rattle.std.proofs.lemmas.List.{take-append-drop}
 use Rattle.svn_dump.proofs.Locations.{location_agree}
 use Rattle.svn_dump.proofs.Origins.{OriginsFall-trees_of}
 use Rattle.svn_dump.proofs.Revisions.{tree_of-front}

@@ -1,18 +1,6 @@
 -- A dump of format 2 under the first line of format 3 is a dump of the same history.
-use Rattle.std.proofs.Common.{◌≡◌, ℕ, pred, false, List, [], ◌∷◌, ◌++◌, length, fold, sym, ap, ap₂, subst, ◌∙◌}
-use Rattle.std.specs.Prelude.{Option, Some, None, codes, option_map}
-use Rattle.std.specs.List.{after_first}
-use Rattle.std.proofs.lemmas.Bool.{or_parts}
-use Rattle.std.proofs.lemmas.Option.{same_Some}
-use Rattle.svn_text.specs.Line.{is_newline}
-use Rattle.svn_dump.specs.Block.{Block, field, properties_length}
-use Rattle.svn_dump.specs.DumpText.{FormatsAgree, first_line}
-use Rattle.svn_dump.specs.Node.{Node, content_by_fields}
-use Rattle.svn_dump.specs.Property.{setting_of}
-use Rattle.svn_dump.specs.Record.{HistoryOfBytes, history_of, is_delta, node_action_of, node_of_block, record_of, says_true, content_of, with_block, with_record, with_content}
-use Rattle.svn_dump.specs.declared.grammar.format.Format.TheVariants.{Two, Three}
+use Rattle.svn_dump.proofs.Common.{◌≡◌, ℕ, pred, false, List, [], ◌∷◌, ◌++◌, length, fold, sym, ap, ap₂, subst, ◌∙◌, Option, Some, None, codes, option_map, after_first, or_parts, same_Some, is_newline, Block, field, properties_length, FormatsAgree, first_line, Node, content_by_fields, setting_of, HistoryOfBytes, history_of, is_delta, node_action_of, node_of_block, record_of, says_true, content_of, with_block, with_record, with_content, Two, Three, format_of}
 use Rattle.svn_dump.proofs.FirstRefusals.{after_first_line, after_first_block, format_of-line, told_by}
-use Rattle.svn_dump.specs.FirstRefusal.{format_of}
 use Rattle.svn_dump.proofs.Refusals.{map_parts, no_delta}
 
 -- ---- a block

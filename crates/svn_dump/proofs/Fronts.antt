@@ -1,21 +1,9 @@
 -- The block at the front of the bytes: its lines, what stands behind them, and that it is a block exactly where nothing is
 -- told against its form.
-use Rattle.std.proofs.Common.{◌≡◌, ℕ, zero, suc, ◌<◌, ◌≤◌, Bool, true, false, cond, not, ◌||◌, List, [], ◌∷◌, ◌++◌, length, take, drop, replicate, refl, sym, ap, ap₂, ◌∙◌, append_assoc, append-nil, arith, take-append-drop, length-append, length-take-le}
-use Rattle.std.specs.Prelude.{Option, Some, None, All, IsFalse, flat_map, count_by, is_none, nat_lt, unwrap_or, ◌==◌}
-use Rattle.std.specs.List.{list_any, slice_split, onto_first, join_with_byte}
-use Rattle.std.proofs.Math.Seq.{take-append_seam, drop-append_seam}
-use Rattle.std.proofs.lemmas.Bool.{both_ways, eqb-true, false_from_ne_true, le-ltb, ltb-false, not-false, not_from_true, or_from, or_parts}
-use Rattle.std.proofs.lemmas.List.Elements.{All-cons, All-head, All-nil, All-tail}
-use Rattle.std.proofs.lemmas.List.Folds.{list_any_at, list_any_none}
+use Rattle.svn_dump.proofs.Common.{◌≡◌, ℕ, zero, suc, ◌<◌, ◌≤◌, Bool, true, false, cond, not, ◌||◌, List, [], ◌∷◌, ◌++◌, length, take, drop, replicate, refl, sym, ap, ap₂, ◌∙◌, append_assoc, append-nil, arith, take-append-drop, length-append, Option, Some, None, All, IsFalse, flat_map, count_by, is_none, nat_lt, unwrap_or, ◌==◌, list_any, slice_split, onto_first, join_with_byte, take-append_seam, drop-append_seam, both_ways, eqb-true, false_from_ne_true, le-ltb, not-false, not_from_true, or_from, or_parts, All-cons, All-head, All-nil, All-tail, list_any_at, list_any_none, none-some, is_not_empty, Block, IsBlock, IsHeader, block_text, body_length, is_header_named, listed_names, is_newline, line_text, after_block, after_lines, begins_with_newline, block_at, body_length_at, front_refusals, has_twice, header_lines, is_cut, is_no_header, lines_before_empty, without_empty_lines, first_holding, reason, Refusal, Header, Length, Truncated}
+use Rattle.std.proofs.Common.{length-take-le}
+use Rattle.std.proofs.lemmas.Bool.{ltb-false}
 use Rattle.std.proofs.lemmas.List.Splits.{join_with_byte-slice_split, length-slice_split, slice_split_at, slice_split_none}
-use Rattle.std.proofs.lemmas.Option.{none-some}
-use Rattle.svn_text.specs.Bytes.{is_not_empty}
-use Rattle.svn_dump.specs.Block.{Block, IsBlock, IsHeader, block_text, body_length, is_header_named, listed_names}
-use Rattle.svn_text.specs.Line.{is_newline, line_text}
-use Rattle.svn_dump.specs.FirstRefusal.{after_block, after_lines, begins_with_newline, block_at, body_length_at, front_refusals, has_twice, header_lines, is_cut, is_no_header, lines_before_empty, without_empty_lines}
-use Rattle.svn_dump.specs.Refusal.{first_holding, reason}
-use Rattle.svn_dump.specs.declared.refusal.Refusal.{Refusal}
-use Rattle.svn_dump.specs.declared.refusal.Refusal.TheVariants.{Header, Length, Truncated}
 
 -- ---- tests of each element
 

@@ -1,10 +1,7 @@
 -- Items in groups of given sizes, and what one more item or one more group makes of them.
-use Rattle.std.proofs.Common.{◌≡◌, ℕ, zero, suc, ◌+◌, ◌-◌, ◌<◌, ◌≤◌, List, [], ◌∷◌, ◌++◌, map, length, take, drop, get_or, set, replicate, sum, refl, sym, ap, ap₂, ◌∙◌, append_assoc, append-nil, arith, length-append, length-drop, take_all}
-use Rattle.std.proofs.lemmas.List.{take-map, drop-map, take-append-le, drop-append-le, length_push, length-replicate, replicate_more, take-append-drop, nil_from_length, get_or_read}
-use Rattle.std.proofs.lemmas.List.Sums.{sum_by-cons}
+use Rattle.svn_dump.proofs.Common.{◌≡◌, ℕ, zero, suc, ◌+◌, ◌-◌, ◌<◌, ◌≤◌, List, [], ◌∷◌, ◌++◌, map, length, take, drop, get_or, set, replicate, sum, refl, sym, ap, ap₂, ◌∙◌, append_assoc, append-nil, arith, length-append, length-drop, take_all, take-map, drop-map, take-append-le, drop-append-le, length_push, length-replicate, replicate_more, nil_from_length, get_or_read, sum_by-cons, records_by_revision, revisions_from, RecordOfBytes, with_record}
+use Rattle.std.proofs.lemmas.List.{take-append-drop}
 use Rattle.std.specs.List.{flat_map}
-use Rattle.svn_dump.specs.Dump.{records_by_revision, revisions_from}
-use Rattle.svn_dump.specs.Record.{RecordOfBytes, with_record}
 
 -- how many items the counts are of
 abbrev pub total : List ℕ → ℕ

@@ -1,20 +1,12 @@
 -- What stays the same while the tables of names and of texts grow.
-use Rattle.std.proofs.Common.{◌≡◌, ℕ, ◌<◌, ◌≤◌, List, [], ◌∷◌, map, length, get_or, refl, sym, ap, ap₂, subst, ◌∙◌, append-nil, arith, length-append}
-use Rattle.std.specs.Prelude.{All, None, Some}
-use Rattle.std.proofs.lemmas.List.{get_or_append_left}
-use Rattle.std.proofs.lemmas.List.Elements.{All-head, All-tail}
-use Rattle.svn_path.specs.Names.{with_names}
+use Rattle.svn_dump.proofs.Common.{◌≡◌, ℕ, ◌<◌, ◌≤◌, List, [], ◌∷◌, map, length, get_or, refl, sym, ap, ap₂, subst, ◌∙◌, append-nil, arith, length-append, All, None, Some, get_or_append_left, All-head, All-tail, with_names, Extends, action_in_bytes, record_in_bytes, setting_in_bytes, DumpValue, IsActOf, IsRecordOf, IsSettingOf, text_of, put, change, add, copy, NodeRecord}
 use Rattle.svn_path.specs.Path.{IsPathOf, components_of}
 use Rattle.svn_path.specs.declared.names.NameId.{NameId}
 use Rattle.svn_path.proofs.Tables.{with_names-append, IsPathOf-append, components_of-append}
-use Rattle.svn_dump.specs.Draft.{Extends, action_in_bytes, record_in_bytes, setting_in_bytes}
-use Rattle.svn_dump.specs.Dump.{DumpValue, IsActOf, IsRecordOf, IsSettingOf, text_of}
-use Rattle.svn_dump.specs.History.{put, change, add, copy}
 use Rattle.svn_dump.specs.declared.record.Act.{Act}
 use Rattle.svn_dump.specs.declared.record.Act.TheVariants as act
 use Rattle.svn_dump.specs.declared.record.Mi.{Mi}
 use Rattle.svn_dump.specs.declared.record.Mi.TheVariants as mi
-use Rattle.svn_dump.specs.declared.record.NodeRecord.{NodeRecord}
 
 -- ---- tables
 

@@ -1,9 +1,6 @@
 -- What a dump that grows keeps.
-use Rattle.std.proofs.Common.{◌≡◌, ℕ, zero, suc, ◌≤◌, List, [], ◌∷◌, ◌++◌, length, set, get_or, refl, ap, ◌∙◌, append_assoc, append-nil, arith}
-use Rattle.svn_dump.specs.Draft.{Extends, dump_of}
-use Rattle.svn_dump.specs.Dump.{DumpValue}
+use Rattle.svn_dump.proofs.Common.{◌≡◌, ℕ, zero, suc, ◌≤◌, List, [], ◌∷◌, ◌++◌, length, set, get_or, refl, ap, ◌∙◌, append_assoc, append-nil, arith, Extends, dump_of, DumpValue, NodeRecord}
 use Rattle.svn_dump.specs.Growth.{CountsGrow, GrowsTo}
-use Rattle.svn_dump.specs.declared.record.NodeRecord.{NodeRecord}
 
 -- ---- counts of records
 

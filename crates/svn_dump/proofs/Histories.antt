@@ -1,17 +1,7 @@
 -- The history that a dump shows, after one more record and after one more revision.
-use Rattle.std.proofs.Common.{◌≡◌, ℕ, ◌<◌, List, [], ◌∷◌, ◌++◌, map, length, sym, ap, ◌∙◌, append_assoc, append-nil, arith}
-use Rattle.std.specs.Prelude.{All}
+use Rattle.svn_dump.proofs.Common.{◌≡◌, ℕ, ◌<◌, List, [], ◌∷◌, ◌++◌, map, length, sym, ap, ◌∙◌, append_assoc, append-nil, arith, All, fold-append, flat_map-append, map-append, length-map, name_of, with_name, with_names, Extends, record_in_bytes, dump_of, IsRecordOf, record_view, records_by_revision, revisions_from, history_in_bytes, text_of, parts_of_record, texts_of_action, all_records, names_of, values_of, rename_record, RecordOfBytes, HistoryOfBytes, with_record, NodeRecord}
 use Rattle.std.specs.List.{flat_map}
-use Rattle.std.proofs.lemmas.Grind.{fold-append, flat_map-append}
-use Rattle.std.proofs.lemmas.List.{map-append, length-map}
 use Rattle.std.proofs.lemmas.Simd.{map-map}
-use Rattle.svn_path.specs.Names.{name_of, with_name, with_names}
-use Rattle.svn_dump.specs.Draft.{Extends, record_in_bytes, dump_of}
-use Rattle.svn_dump.specs.Dump.{IsRecordOf, record_view, records_by_revision, revisions_from, history_in_bytes, text_of}
-use Rattle.svn_dump.specs.DumpText.{parts_of_record, texts_of_action, all_records, names_of, values_of}
-use Rattle.svn_dump.specs.History.{rename_record}
-use Rattle.svn_dump.specs.Record.{RecordOfBytes, HistoryOfBytes, with_record}
-use Rattle.svn_dump.specs.declared.record.NodeRecord.{NodeRecord}
 use Rattle.svn_dump.proofs.Growing.{map-record_in_bytes-grows}
 use Rattle.svn_dump.proofs.Grouped.{total, with_more, length-records_by_revision, map-records_by_revision, flat_map-records_by_revision, records_by_revision-with_more, records_by_revision-with_group, length-revisions_from}
 

@@ -1,3 +1,4 @@
+mod Common
 mod Blocks
 mod Drafts
 mod EntriesRead

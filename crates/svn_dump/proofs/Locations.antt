@@ -1,9 +1,7 @@
 -- A location, one step back at a time.
-use Rattle.std.proofs.Common.{◌≡◌, ℕ, zero, suc, ◌<◌, ◌≤◌, ◌==◌, nat_lt, Bool, true, false, if◌then◌else◌, List, Option, None, Some, option_and_then, inl, inr, refl, sym, ap, ◌∙◌, arith}
-use Rattle.std.proofs.lemmas.Bool.{cases_lt, cases_order, eqb-true, eq-eqb, ne_eqb, le-ltb, lt-ltb, ltb-false}
-use Rattle.std.proofs.lemmas.Option.{none-some, same_Some, option_and_then_some}
-use Rattle.svn_dump.specs.Location.{origin_of, location_within, location}
-use Rattle.svn_dump.specs.Tree.{Tree, entry_at, is_there, tree_of}
+use Rattle.svn_dump.proofs.Common.{◌≡◌, ℕ, zero, suc, ◌<◌, ◌≤◌, Bool, true, false, if◌then◌else◌, List, inl, inr, refl, sym, ap, ◌∙◌, arith, cases_lt, cases_order, eqb-true, ne_eqb, le-ltb, none-some, same_Some, option_and_then_some, origin_of, location_within, location, Tree, entry_at, is_there, tree_of}
+use Rattle.std.proofs.Common.{◌==◌, nat_lt, Option, None, Some, option_and_then}
+use Rattle.std.proofs.lemmas.Bool.{eq-eqb, lt-ltb, ltb-false}
 use Rattle.svn_dump.proofs.Origins.{OriginsFall, OriginsAreThere}
 
 -- what a step back to an origin finds, given what is found from there

@@ -1,10 +1,6 @@
 -- The mergeinfo of a property section, entry by entry.
-use Rattle.std.proofs.Common.{◌≡◌, ℕ, zero, suc, ◌≤◌, Bool, true, false, List, [], ◌∷◌, length, fold, refl, sym, ap, ◌∙◌, arith}
-use Rattle.std.specs.Prelude.{Option, Some, None, bytes_eq, option_map, option_and_then, if◌then◌else◌}
-use Rattle.std.proofs.lemmas.Bool.{cond-true, cond-false}
-use Rattle.std.proofs.lemmas.Slice.Eq.{bytes_eq-Decides}
-use Rattle.svn_dump.specs.History.{Setting, put}
-use Rattle.svn_dump.specs.Property.{SectionEntry, entry_of, section_end, section_up_to, section_of, mergeinfo_name, setting_by, setting_by_value, setting_unnamed}
+use Rattle.svn_dump.proofs.Common.{◌≡◌, ℕ, zero, suc, ◌≤◌, Bool, true, false, List, [], ◌∷◌, length, fold, refl, sym, ap, ◌∙◌, arith, Option, Some, None, bytes_eq, option_map, option_and_then, cond-true, cond-false, bytes_eq-Decides, Setting, put, SectionEntry, entry_of, section_end, section_up_to, section_of, mergeinfo_name, setting_by, setting_by_value, setting_unnamed}
+use Rattle.std.specs.Prelude.{if◌then◌else◌}
 use Rattle.svn_dump.proofs.EntriesRead.{length-entry}
 
 abbrev with_value : Option (Option (List ℕ)) → SectionEntry → Option (Option (List ℕ))

@@ -1,32 +1,14 @@
 -- What stands against a node block, and its record by the numbers of the tables.
-use Rattle.std.proofs.Common.{◌≡◌, ℕ, pred, ◌<◌, ◌≤◌, Bool, true, false, not, ◌&&◌, ◌||◌, List, [], ◌∷◌, ◌++◌, length, take, drop, refl, sym, ap, ap₂, ◌∙◌, subst, lt-ltb, eq-eqb, arith, inl, inr, take-append-drop}
-use Rattle.std.specs.Prelude.{Some, None, filter, is_none, nat_lt, ◌==◌, ◌⊎◌}
-use Rattle.std.specs.List.{list_all, list_any, slice_split, onto_first}
-use Rattle.std.proofs.lemmas.Bool.{cases_Bool, cond-true, cond-false, ltb-true, ne_eqb, not-false, or_parts, or_right}
-use Rattle.std.proofs.Math.Bool.{or-true}
-use Rattle.std.proofs.lemmas.Grind.{fold-append}
-use Rattle.svn_text.specs.Bytes.{is_not_empty}
+use Rattle.svn_dump.proofs.Common.{◌≡◌, ℕ, pred, ◌<◌, ◌≤◌, Bool, true, false, not, ◌&&◌, ◌||◌, List, [], ◌∷◌, ◌++◌, length, take, drop, refl, sym, ap, ap₂, ◌∙◌, subst, lt-ltb, eq-eqb, arith, inl, inr, take-append-drop, Some, None, filter, is_none, nat_lt, ◌==◌, list_all, list_any, slice_split, onto_first, cases_Bool, cond-true, cond-false, ltb-true, ne_eqb, not-false, or_parts, or_right, or-true, fold-append, is_not_empty, most_names, with_name, with_names, Extends, action_in_bytes, IsChange, most_numbered, parts_of_action, parts_of_record, texts_of_action, Setting, delete, change, add, copy, Node, NodeAction, node_add, node_change, node_copy, node_delete, is_change, ActionOfBytes, RecordOfBytes, action_of, has_dot, has_late_source, is_long, is_root, is_root_action, paths_read, record_by, record_of, Reason, action_refusals, first_holding, reason, later_refusals, node_refusals, size_refusals, read_error_of, IsNumberedAct, IsFirstReason, IsNumberedPath, IsNumberedRecord, IsAcceptedNode, IsTooLarge, is_full_with, is_path_large, is_record_large, ReadError, Refusal, BadPath, BadRecord, Delta, CopyRevision, Props, RootAction, RevisionZero, TooLarge}
+use Rattle.std.specs.Prelude.{◌⊎◌}
 use Rattle.svn_path.specs.Components.{is_slash, parts_of}
-use Rattle.svn_path.specs.Names.{most_names, with_name, with_names}
 use Rattle.svn_path.specs.Path.{components_of}
 use Rattle.svn_path.specs.declared.names.NameId.{NameId}
 use Rattle.svn_path.specs.declared.path.PathError.{PathError}
 use Rattle.svn_path.specs.declared.path.PathError.TheVariants as path
-use Rattle.svn_dump.specs.Draft.{Extends, action_in_bytes}
-use Rattle.svn_dump.specs.Dump.{IsChange}
-use Rattle.svn_dump.specs.DumpText.{most_numbered, parts_of_action, parts_of_record, texts_of_action}
-use Rattle.svn_dump.specs.History.{Setting, delete, change, add, copy}
-use Rattle.svn_dump.specs.Node.{Node, NodeAction, node_add, node_change, node_copy, node_delete, is_change}
-use Rattle.svn_dump.specs.Record.{ActionOfBytes, RecordOfBytes, action_of, has_dot, has_late_source, is_long, is_root, is_root_action, paths_read, record_by, record_of}
-use Rattle.svn_dump.specs.Refusal.{Reason, action_refusals, first_holding, reason, later_refusals, node_refusals, size_refusals}
-use Rattle.svn_dump.specs.ReadError.{read_error_of}
-use Rattle.svn_dump.specs.NumberedRecord.{IsNumberedAct, IsFirstReason, IsNumberedPath, IsNumberedRecord, IsAcceptedNode, IsTooLarge, is_full_with, is_path_large, is_record_large}
-use Rattle.svn_dump.specs.declared.read_error.ReadError.{ReadError}
 use Rattle.svn_dump.specs.declared.read_error.ReadError.TheVariants as read
 use Rattle.svn_dump.specs.declared.record.Act.{Act}
 use Rattle.svn_dump.specs.declared.record.Act.TheVariants as act
-use Rattle.svn_dump.specs.declared.refusal.Refusal.{Refusal}
-use Rattle.svn_dump.specs.declared.refusal.Refusal.TheVariants.{BadPath, BadRecord, Delta, CopyRevision, Props, RootAction, RevisionZero, TooLarge}
 use Rattle.svn_dump.proofs.Growing.{Extends-with_names, IsPathOf-grows, length-Extends, components_of-grows}
 use Rattle.svn_dump.proofs.Refusals.{first_holding-front, first_holding-later, none_holds-parts, record_of-allowed}
 

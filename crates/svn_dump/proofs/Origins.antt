@@ -1,13 +1,6 @@
 -- Where the entries of a history's trees came from: from smaller revisions, and from paths that are there.
-use Rattle.std.proofs.Common.{◌≡◌, ℕ, ◌<◌, ⊎_elim, Bool, true, false, if◌then◌else◌, List, [], ◌∷◌, ◌++◌, Option, None, Some, All, IfSome, is_some, option_and_then, fold, length, refl, sym, ap, subst, ◌∙◌, arith, true≢false}
-use Rattle.std.proofs.lemmas.Bool.{cases_lt}
-use Rattle.std.proofs.lemmas.List.Elements.{All-nil, All-cons, All-weaker}
-use Rattle.std.proofs.lemmas.Option.{IfSome_then}
-use Rattle.svn_path.specs.Below.{same_path}
-use Rattle.svn_dump.specs.History.{History}
-use Rattle.svn_dump.specs.Location.{origin_of}
-use Rattle.svn_dump.specs.Tree.{Tree, Entry, entry_at, is_there, tree_of, end_tree, with_revision, trees_of}
-use Rattle.svn_path.proofs.Belows.{IsSame, IsSame-same_path}
+use Rattle.svn_dump.proofs.Common.{◌≡◌, ℕ, ◌<◌, ⊎_elim, Bool, true, false, if◌then◌else◌, List, [], ◌∷◌, ◌++◌, IfSome, fold, length, refl, sym, ap, subst, ◌∙◌, arith, true≢false, cases_lt, All-nil, All-cons, All-weaker, IfSome_then, same_path, History, origin_of, Tree, Entry, entry_at, is_there, tree_of, end_tree, with_revision, trees_of, IsSame, IsSame-same_path}
+use Rattle.std.proofs.Common.{Option, None, Some, All, is_some, option_and_then}
 use Rattle.svn_dump.proofs.Entries.{AllEntries, AllEntries-entry_at, IsKept, AllEntries-end_tree}
 use Rattle.svn_dump.proofs.Revisions.{tree_of-append, tree_of_past, each_tree_push}
 use Rattle.svn_dump.proofs.Trees.{entry_from}

@@ -1,12 +1,11 @@
 -- The body of a block as it comes, piece by piece.
-use Rattle.std.proofs.Common.{◌≡◌, ℕ, zero, suc, ◌-◌, false, List, [], ◌∷◌, ◌++◌, length, take, drop, inl, inr, refl, sym, ap, ap₂, subst, ◌∙◌, arith, length-append, length-take, take-append-drop, nat_eq}
-use Rattle.std.specs.Prelude.{Option, MatchOption}
+use Rattle.svn_dump.proofs.Common.{◌≡◌, ℕ, zero, suc, ◌-◌, false, List, [], ◌∷◌, ◌++◌, length, take, drop, inl, inr, refl, sym, ap, ap₂, subst, ◌∙◌, arith, length-append, length-take, take-append-drop, Option, MatchOption, cases_lt, ne_eqb, PartialBody}
+use Rattle.std.proofs.Common.{nat_eq}
 use Rattle.std.specs.Bool.{then_some}
 use Rattle.std.specs.Borrow.{Bor}
-use Rattle.std.proofs.lemmas.Bool.{cases_lt, eq-eqb, ne_eqb}
+use Rattle.std.proofs.lemmas.Bool.{eq-eqb}
 use Rattle.std.proofs.lemmas.List.{take_all}
 use Rattle.svn_dump.specs.PartialBody.{EndsBody, ExtendsBody, IsPartialBody}
-use Rattle.svn_dump.specs.declared.pieces.partial_body.PartialBody.{PartialBody}
 
 -- the front of a list and of what follows it
 pub take-both : (n : ℕ) (front back : List ℕ) → take n (front ++ back) ≡ take n front ++ take (n - length front) back

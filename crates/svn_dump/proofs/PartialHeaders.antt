@@ -1,28 +1,7 @@
 -- The header of a block as it comes, line by line.
-use Rattle.std.proofs.Common.{◌≡◌, ℕ, ◌+◌, ◌<◌, true, List, [], ◌∷◌, ◌++◌, length, take, drop, map, get_or, ◌⊎◌, ⊎_elim, inl, inr, refl, sym, ap, ap₂, subst, ◌∙◌, append_assoc, append-nil, arith, length-append, length-take, Bor}
-use Rattle.std.specs.Prelude.{Option, Some, None, IsFalse, IsTrue, bytes_eq, cond, count_by, flat_map}
-use Rattle.std.specs.List.{list_any, position_or_len}
-use Rattle.std.proofs.Math.Seq.{drop-append-add, drop-append_seam, take-append_seam}
-use Rattle.std.proofs.lemmas.Bool.{or_from}
-use Rattle.std.proofs.lemmas.Grind.{flat_map-append}
-use Rattle.std.proofs.lemmas.List.{get_or_append_left, get_or_at, get_or-take, map-append}
-use Rattle.std.proofs.lemmas.List.Elements.{All-nil, All-push}
-use Rattle.std.proofs.lemmas.List.Folds.{list_any-append}
-use Rattle.std.proofs.lemmas.List.Sums.{fails_before_first, position_or_len_is, sum_by-cons}
-use Rattle.svn_text.specs.Bytes.{is_colon, is_not_empty}
-use Rattle.svn_text.specs.Line.{is_newline, line_text}
-use Rattle.svn_dump.specs.Block.{IsHeader, header_name, header_value, is_header_named, listed_names, without_space}
-use Rattle.svn_dump.specs.Field.{fields_of}
-use Rattle.svn_dump.specs.FirstRefusal.{after_lines, front_refusals, header_lines}
-use Rattle.svn_dump.specs.FrontBlock.{BeginsWithHeaders, BeginsWithLines, IsUnfinished}
-use Rattle.svn_dump.specs.Headers.{AddsHeader, AreHeaders, AreOnce, RepeatsHeader}
-use Rattle.svn_dump.specs.HeaderValues.{body_length_from_headers}
-use Rattle.svn_dump.specs.PartialHeader.{AreHeaderLines, IsDecidedFront, IsDecidedFrontError, IsHeaderFront, IsPartialHeader, without_value}
-use Rattle.svn_dump.specs.Refusal.{first_holding}
-use Rattle.svn_dump.specs.declared.read_error.ReadError.{ReadError}
+use Rattle.svn_dump.proofs.Common.{◌≡◌, ℕ, ◌+◌, ◌<◌, true, List, [], ◌∷◌, ◌++◌, length, take, drop, map, get_or, ◌⊎◌, ⊎_elim, inl, inr, refl, sym, ap, ap₂, subst, ◌∙◌, append_assoc, append-nil, arith, length-append, length-take, Bor, Option, Some, None, IsFalse, IsTrue, bytes_eq, count_by, flat_map, list_any, position_or_len, drop-append-add, drop-append_seam, take-append_seam, or_from, flat_map-append, get_or_append_left, get_or_at, get_or-take, map-append, All-nil, All-push, list_any-append, fails_before_first, position_or_len_is, sum_by-cons, is_colon, is_not_empty, is_newline, line_text, IsHeader, header_name, header_value, is_header_named, listed_names, without_space, fields_of, after_lines, front_refusals, header_lines, BeginsWithHeaders, BeginsWithLines, IsUnfinished, AddsHeader, AreHeaders, AreOnce, RepeatsHeader, body_length_from_headers, AreHeaderLines, IsDecidedFront, IsDecidedFrontError, IsHeaderFront, IsPartialHeader, without_value, first_holding, ReadError, Refusal, Header, Length, Truncated}
+use Rattle.std.specs.Prelude.{cond}
 use Rattle.svn_dump.specs.declared.read_error.ReadError.TheVariants as read
-use Rattle.svn_dump.specs.declared.refusal.Refusal.{Refusal}
-use Rattle.svn_dump.specs.declared.refusal.Refusal.TheVariants.{Header, Length, Truncated}
 use Rattle.svn_dump.proofs.Blocks.{BeginsWithLines-append, lines_are_found, refused-length, refused-length_of, refused-no_header, refused-twice, refused-unfinished}
 use Rattle.svn_dump.proofs.Fronts.{after_lines-lines, header_lines-empty, header_lines-lines, header_lines-unfinished}
 

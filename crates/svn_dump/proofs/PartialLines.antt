@@ -1,21 +1,5 @@
 -- The first line as it comes, byte by byte.
-use Rattle.std.proofs.Common.{◌≡◌, ◌≢◌, ℕ, ◌+◌, ◌-◌, ◌<◌, ◌≤◌, false, List, [], ◌∷◌, ◌++◌, length, take, drop, get_or, refl, sym, ap, ap₂, subst, ◌∙◌, append_assoc, arith, length-append}
-use Rattle.std.specs.Prelude.{Some, None, Result, Ok, Err, IfErr, IfOk, bytes_eq, codes}
-use Rattle.std.specs.List.{list_any}
-use Rattle.std.proofs.lemmas.Bool.{cond-false, false_from_ne_true, ne_eqb, or_from}
-use Rattle.std.proofs.lemmas.List.{get_or_append_left, get_or_at, length-take-le, take_more, take_rest}
-use Rattle.std.proofs.lemmas.List.Folds.{list_any-append}
-use Rattle.std.proofs.lemmas.Slice.Eq.{bytes_eq-Decides}
-use Rattle.svn_text.specs.Line.{is_newline}
-use Rattle.svn_dump.specs.FirstRefusal.{line_refusals, magic}
-use Rattle.svn_dump.specs.Format.{format_of_version, version}
-use Rattle.svn_dump.specs.PartialLine.{HasOtherVersion, IsDecidedLine, IsFrontOfLine, IsPartialLine}
-use Rattle.svn_dump.specs.Refusal.{first_holding}
-use Rattle.svn_dump.specs.declared.grammar.format.Format.{Format}
-use Rattle.svn_dump.specs.declared.grammar.format.Format.TheVariants.{Two, Three}
-use Rattle.svn_dump.specs.declared.pieces.partial_line.PartialLine.{PartialLine}
-use Rattle.svn_dump.specs.declared.refusal.Refusal.{Refusal}
-use Rattle.svn_dump.specs.declared.refusal.Refusal.TheVariants.{Magic, Truncated, Version}
+use Rattle.svn_dump.proofs.Common.{◌≡◌, ◌≢◌, ℕ, ◌+◌, ◌-◌, ◌<◌, ◌≤◌, false, List, [], ◌∷◌, ◌++◌, length, take, drop, get_or, refl, sym, ap, ap₂, subst, ◌∙◌, append_assoc, arith, length-append, Some, None, Result, Ok, Err, IfErr, IfOk, bytes_eq, codes, list_any, cond-false, false_from_ne_true, ne_eqb, or_from, get_or_append_left, get_or_at, length-take-le, take_more, take_rest, list_any-append, bytes_eq-Decides, is_newline, line_refusals, magic, format_of_version, version, HasOtherVersion, IsDecidedLine, IsFrontOfLine, IsPartialLine, first_holding, Format, Two, Three, PartialLine, Refusal, Magic, Truncated, Version}
 use Rattle.svn_dump.proofs.FirstLines.{refused_cut, refused_magic, refused_version}
 
 -- bytes that are not other ones

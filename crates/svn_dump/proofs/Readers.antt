@@ -1,32 +1,10 @@
 -- The parts of a dump, as their bytes come.
-use Rattle.std.proofs.Common.{◌≡◌, ℕ, ◌-◌, ◌<◌, ◌≤◌, List, [], ◌∷◌, ◌++◌, length, replicate, refl, sym, ap, subst, ◌∙◌, append_assoc, append-nil, length-append, arith, Bor}
-use Rattle.std.specs.Prelude.{Option, None, Some, Result, Ok, Err, IfErr, IfOk, IfSome}
-use Rattle.svn_dump.specs.Block.{block_text}
-use Rattle.svn_dump.specs.Decided.{HasFirstLine, IsDecidedError}
-use Rattle.svn_dump.specs.Draft.{IsWholeHistory}
-use Rattle.svn_dump.specs.Dump.{DumpValue, history_in_bytes}
-use Rattle.svn_dump.specs.DumpError.{IsFirstAt, IsRefusal}
-use Rattle.svn_dump.specs.DumpText.{first_line}
-use Rattle.svn_dump.specs.Field.{fields_of}
-use Rattle.svn_dump.specs.FirstRefusal.{IsEmptyLines, front_refusals, header_lines, line_refusals, without_empty_lines}
-use Rattle.svn_dump.specs.FrontBlock.{AddsBlock, BeginsWithLines, IsBlockRefusalFrom}
+use Rattle.svn_dump.proofs.Common.{◌≡◌, ℕ, ◌-◌, ◌<◌, ◌≤◌, List, [], ◌∷◌, ◌++◌, length, replicate, refl, sym, ap, subst, ◌∙◌, append_assoc, append-nil, length-append, arith, Bor, Option, None, Some, Result, Ok, Err, IfErr, IfOk, block_text, HasFirstLine, IsDecidedError, IsWholeHistory, DumpValue, history_in_bytes, IsFirstAt, IsRefusal, first_line, fields_of, IsEmptyLines, front_refusals, header_lines, line_refusals, without_empty_lines, AddsBlock, BeginsWithLines, IsBlockRefusalFrom, AreHeaderLines, EndsHeader, IsBodyAfter, IsDecidedFront, IsDecidedFrontError, EndsLine, IsDecidedLine, dump_error_at, BeginsBlock, HasReadAll, IsBodyTo, IsIn, IsInBody, IsInHeader, IsInLine, IsReadAs, IsReadTo, ReadsPart, RefusesBlock, RefusesHeader, DumpError, Format, PartialBody, PartialLine, ReadError, Reader, first_holding, Refusal, Truncated}
+use Rattle.std.specs.Prelude.{IfSome}
 use Rattle.svn_dump.specs.PartialBody.{EndsBody, ExtendsBody, IsPartialBody}
-use Rattle.svn_dump.specs.PartialHeader.{AreHeaderLines, EndsHeader, IsBodyAfter, IsDecidedFront, IsDecidedFrontError}
-use Rattle.svn_dump.specs.PartialLine.{EndsLine, IsDecidedLine}
-use Rattle.svn_dump.specs.ReadError.{dump_error_at}
-use Rattle.svn_dump.specs.Reader.{BeginsBlock, HasReadAll, IsBodyTo, IsIn, IsInBody, IsInHeader, IsInLine, IsReadAs, IsReadTo, ReadsPart, RefusesBlock, RefusesHeader}
-use Rattle.svn_dump.specs.declared.error.DumpError.{DumpError}
 use Rattle.svn_dump.specs.declared.error.DumpError.TheVariants as dump
-use Rattle.svn_dump.specs.declared.grammar.format.Format.{Format}
-use Rattle.svn_dump.specs.declared.pieces.partial_body.PartialBody.{PartialBody}
-use Rattle.svn_dump.specs.declared.pieces.partial_line.PartialLine.{PartialLine}
-use Rattle.svn_dump.specs.declared.read_error.ReadError.{ReadError}
 use Rattle.svn_dump.specs.declared.read_error.ReadError.TheVariants as read
 use Rattle.svn_dump.specs.declared.pieces.reader.Progress.TheVariants as progress
-use Rattle.svn_dump.specs.declared.pieces.reader.Reader.{Reader}
-use Rattle.svn_dump.specs.Refusal.{first_holding}
-use Rattle.svn_dump.specs.declared.refusal.Refusal.{Refusal}
-use Rattle.svn_dump.specs.declared.refusal.Refusal.TheVariants.{Truncated}
 use Rattle.svn_dump.proofs.Blocks.{body_length-from_headers, refused-body}
 use Rattle.svn_dump.proofs.PartialHeaders.{BeginsWithLines-all}
 use Rattle.svn_dump.proofs.Readings.{BeginsBlock-append, HasFirstLine-read, IsDecidedError-block, IsFirstAt-line, IsRefusal-block, IsReadAs-block, IsReadAs-line, IsReadAs-newlines}

@@ -1,30 +1,7 @@
 -- Bytes that are read as a draft: what stands against an input that begins with them, and what follows them.
-use Rattle.std.proofs.Common.{◌≡◌, ℕ, suc, ◌+◌, ◌-◌, ◌<◌, List, [], ◌∷◌, ◌++◌, length, replicate, refl, sym, ap, ◌∙◌, subst, append_assoc, append-nil, length-append, arith}
-use Rattle.std.specs.Prelude.{Some, option_and_then}
-use Rattle.std.specs.List.{after_first}
-use Rattle.std.proofs.lemmas.Bool.{cond-true}
-use Rattle.std.proofs.lemmas.Grind.{fold-append}
-use Rattle.std.proofs.lemmas.List.{nil_from_length, replicate-append-replicate}
-use Rattle.svn_text.specs.Line.{is_newline}
-use Rattle.svn_dump.specs.Block.{AreBlocks, Block, IsBlock, block_text}
-use Rattle.svn_dump.specs.Decided.{HasFirstLine, IsDecidedError}
-use Rattle.svn_dump.specs.Draft.{IsWholeHistory, dump_of}
-use Rattle.svn_dump.specs.Dump.{DumpValue, IsDump, history_in_bytes}
-use Rattle.svn_dump.specs.DumpError.{IsFirstAt, IsRefusal}
-use Rattle.svn_dump.specs.DumpText.{IsDumpText, IsSmall, first_line}
-use Rattle.svn_dump.specs.FirstRefusal.{RefusalAt, after_block, block_at, block_refusal, end_refusal, first_refusal, format_of, line_refusals, refusal_from, refusal_or}
-use Rattle.svn_dump.specs.FrontBlock.{IsBlockRefusalFrom}
-use Rattle.svn_dump.specs.ReadError.{dump_error_at}
-use Rattle.svn_dump.specs.Reader.{BeginsBlock, IsReadAs, IsReadTo}
-use Rattle.svn_dump.specs.Record.{HistoryOfBytes, history_of, with_block}
-use Rattle.svn_dump.specs.Refusal.{first_holding, number_of_refusal}
-use Rattle.svn_dump.specs.declared.error.DumpError.{DumpError}
+use Rattle.svn_dump.proofs.Common.{◌≡◌, ℕ, suc, ◌+◌, ◌-◌, ◌<◌, List, [], ◌∷◌, ◌++◌, length, replicate, refl, sym, ap, ◌∙◌, subst, append_assoc, append-nil, length-append, arith, Some, option_and_then, after_first, cond-true, fold-append, nil_from_length, replicate-append-replicate, is_newline, AreBlocks, Block, IsBlock, block_text, HasFirstLine, IsDecidedError, IsWholeHistory, dump_of, DumpValue, IsDump, history_in_bytes, IsFirstAt, IsRefusal, IsDumpText, IsSmall, first_line, RefusalAt, after_block, block_at, block_refusal, end_refusal, first_refusal, format_of, line_refusals, refusal_from, refusal_or, IsBlockRefusalFrom, dump_error_at, BeginsBlock, IsReadAs, IsReadTo, HistoryOfBytes, history_of, with_block, first_holding, number_of_refusal, DumpError, Format, ReadError, Refusal, Revision}
 use Rattle.svn_dump.specs.declared.error.DumpError.TheVariants as dump
-use Rattle.svn_dump.specs.declared.grammar.format.Format.{Format}
-use Rattle.svn_dump.specs.declared.read_error.ReadError.{ReadError}
 use Rattle.svn_dump.specs.declared.read_error.ReadError.TheVariants as read
-use Rattle.svn_dump.specs.declared.refusal.Refusal.{Refusal}
-use Rattle.svn_dump.specs.declared.refusal.Refusal.TheVariants.{Revision}
 use Rattle.svn_dump.proofs.FirstRefusals.{first_refusal-line, length-after_line, refusal_from-at, refusal_from-front, without_empty_lines-none}
 use Rattle.svn_dump.proofs.Drafts.{IsWholeHistory-none}
 use Rattle.svn_dump.proofs.Histories.{length-history_in_bytes}

@@ -1,24 +1,9 @@
 -- The reasons against a block: the first that holds in two lists of them, and that there is none exactly where the block
 -- leaves a small history.
-use Rattle.std.proofs.Common.{◌≡◌, ℕ, zero, suc, pred, ◌+◌, ◌<◌, ◌≤◌, Bool, true, false, not, ◌&&◌, ◌||◌, List, [], ◌∷◌, ◌++◌, length, refl, sym, ap, subst, ◌∙◌, arith, length-append, le_trans, ltb-false, le-ltb, true≢false, inl, inr}
-use Rattle.std.specs.Prelude.{Option, Some, None, is_none, nat_lt, ◌==◌, option_and_then, option_map, if◌then◌else◌}
-use Rattle.std.specs.List.{list_all, list_any}
-use Rattle.std.specs.Option.{option_or}
-use Rattle.std.proofs.lemmas.Bool.{and_from, and_parts, both_ways, cases_Bool, cond-false, cond-true, ne_eqb, not-false, not-true, not_from_false, not_from_true, or_from, or_parts}
-use Rattle.std.proofs.Math.Bool.{or-true}
-use Rattle.std.proofs.lemmas.Option.{none-some, same_Some}
-use Rattle.svn_path.specs.Names.{with_names}
-use Rattle.svn_dump.specs.DumpText.{IsSmall, all_records, most_numbered, names_of, parts_of_record, texts_of_action, values_of}
-use Rattle.svn_dump.specs.History.{Setting}
-use Rattle.svn_dump.specs.Node.{BlockContent, Node, NodeAction, node_block, other_block, revision_block, uuid_block}
-use Rattle.svn_text.specs.Number.{number_of}
-use Rattle.svn_dump.specs.Record.{HistoryOfBytes, RecordOfBytes, has_dot, is_allowed, has_late_source, is_long, is_root_action, paths_read, record_by, record_of, with_numbered, with_record, with_content}
-use Rattle.svn_dump.specs.Refusal.{Reason, action_refusals, first_holding, grows_large, is_large, reason, later_refusals, node_refusals, refusals_by, revision_refusals, size_refusals, content_refusals}
-use Rattle.svn_dump.specs.NumberedRecord.{IsFirstReason, is_record_large}
-use Rattle.svn_dump.specs.declared.read_error.ReadError.{ReadError}
+use Rattle.svn_dump.proofs.Common.{◌≡◌, ℕ, zero, suc, pred, ◌+◌, ◌<◌, ◌≤◌, Bool, true, false, not, ◌&&◌, ◌||◌, List, [], ◌∷◌, ◌++◌, length, refl, sym, ap, subst, ◌∙◌, arith, length-append, le_trans, ltb-false, true≢false, inl, inr, Option, Some, None, is_none, nat_lt, ◌==◌, option_and_then, option_map, list_all, list_any, option_or, and_from, and_parts, both_ways, cases_Bool, cond-false, cond-true, ne_eqb, not-false, not-true, not_from_false, not_from_true, or_from, or_parts, or-true, none-some, same_Some, with_names, IsSmall, all_records, most_numbered, names_of, parts_of_record, texts_of_action, values_of, Setting, BlockContent, Node, NodeAction, node_block, other_block, revision_block, uuid_block, number_of, HistoryOfBytes, RecordOfBytes, has_dot, is_allowed, has_late_source, is_long, is_root_action, paths_read, record_by, record_of, with_numbered, with_record, with_content, Reason, action_refusals, first_holding, grows_large, is_large, reason, later_refusals, node_refusals, refusals_by, revision_refusals, size_refusals, content_refusals, IsFirstReason, is_record_large, ReadError, Refusal, BadPath, BadRecord, CopyRevision, Delta, Props, Revision, RevisionZero, RootAction, TooLarge}
+use Rattle.std.proofs.Common.{le-ltb}
+use Rattle.std.specs.Prelude.{if◌then◌else◌}
 use Rattle.svn_dump.specs.declared.read_error.ReadError.TheVariants as read
-use Rattle.svn_dump.specs.declared.refusal.Refusal.{Refusal}
-use Rattle.svn_dump.specs.declared.refusal.Refusal.TheVariants.{BadPath, BadRecord, CopyRevision, Delta, Props, Revision, RevisionZero, RootAction, TooLarge}
 use Rattle.svn_dump.proofs.Growing.{Extends-by, length-Extends}
 use Rattle.svn_dump.proofs.Histories.{all_records-with_record, all_records-with_revision, names_of-with_record, names_of-with_revision, values_of-with_record, values_of-with_revision}
 

@@ -1,10 +1,6 @@
 -- The trees of a history, one revision after another.
-use Rattle.std.proofs.Common.{◌≡◌, ℕ, ◌+◌, ◌-◌, ◌<◌, ◌≤◌, inl, inr, Bool, List, [], ◌∷◌, ◌++◌, fold, length, refl, sym, ap, subst, ◌∙◌, arith}
-use Rattle.std.proofs.lemmas.Bool.{cases_order}
-use Rattle.std.proofs.lemmas.List.{length_push, get_or_append_left, get_or_push, get_or_past}
-use Rattle.std.proofs.lemmas.List.Sums.{fold_push, fold-append}
-use Rattle.svn_dump.specs.History.{Record, History}
-use Rattle.svn_dump.specs.Tree.{Tree, tree_of, first_tree, tree_from_revision, start_tree, end_tree, with_revision, trees_of}
+use Rattle.svn_dump.proofs.Common.{◌≡◌, ℕ, ◌+◌, ◌-◌, ◌<◌, ◌≤◌, inl, inr, Bool, List, [], ◌∷◌, ◌++◌, fold, length, refl, sym, ap, subst, ◌∙◌, arith, cases_order, length_push, get_or_append_left, get_or_push, get_or_past, fold_push, Record, History, Tree, tree_of, first_tree, tree_from_revision, start_tree, end_tree, with_revision, trees_of}
+use Rattle.std.proofs.lemmas.List.Sums.{fold-append}
 
 -- ---- the tree of a revision
 

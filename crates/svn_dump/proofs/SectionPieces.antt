@@ -1,15 +1,8 @@
 -- The pieces of a property section: a letter, the length of a text, and the text.
-use Rattle.std.proofs.Common.{◌≡◌, ◌≢◌, ℕ, ◌+◌, ◌<◌, ◌≤◌, Bool, true, false, inl, inr, List, [], ◌∷◌, ◌++◌, length, get_or, take, drop, refl, sym, ap, ap₂, subst, ◌∙◌, arith, length-append, append_assoc}
-use Rattle.std.specs.Prelude.{◌==◌, nat_eq, nat_le, nat_lt, ◌&&◌, ◌||◌, Option, Some, None, option_and_then, if◌then◌else◌}
-use Rattle.std.specs.List.{list_all, list_any, position_or_len, before_first, after_first, starts_with}
-use Rattle.std.proofs.Math.Seq.{take-append_seam, drop-append_seam}
-use Rattle.std.proofs.lemmas.Bool.{cases_Bool, cases_lt, and_from, and_left, and_right, and_parts, or_parts, or_right, both_ways, cond-true, cond-false, eq-eqb, eqb-true, ne_eqb, lt-ltb, le-ltb, le-leb, lt-leb, ltb-true}
-use Rattle.std.proofs.lemmas.List.{drop_more, length-take-le, take-append-drop}
-use Rattle.std.proofs.lemmas.List.Folds.{list_any-append}
-use Rattle.std.proofs.lemmas.Option.{none-some, some_pair_parts}
-use Rattle.svn_text.specs.Line.{is_newline}
-use Rattle.svn_text.specs.Number.{is_digit, number_of, number_up_to}
-use Rattle.svn_dump.specs.Property.{text_of_length, piece_of}
+use Rattle.svn_dump.proofs.Common.{◌≡◌, ◌≢◌, ℕ, ◌+◌, ◌<◌, ◌≤◌, Bool, true, false, inl, inr, List, [], ◌∷◌, ◌++◌, length, get_or, take, drop, refl, sym, ap, ap₂, subst, ◌∙◌, arith, length-append, append_assoc, ◌==◌, nat_eq, nat_le, nat_lt, Option, Some, None, option_and_then, list_all, list_any, position_or_len, before_first, after_first, starts_with, take-append_seam, drop-append_seam, cases_Bool, cases_lt, and_from, and_left, and_right, and_parts, or_parts, or_right, both_ways, cond-true, cond-false, eqb-true, ne_eqb, le-ltb, lt-leb, ltb-true, drop_more, length-take-le, list_any-append, none-some, some_pair_parts, is_newline, is_digit, number_of, number_up_to, text_of_length, piece_of}
+use Rattle.std.specs.Prelude.{◌&&◌, ◌||◌, if◌then◌else◌}
+use Rattle.std.proofs.lemmas.Bool.{eq-eqb, lt-ltb, le-leb}
+use Rattle.std.proofs.lemmas.List.{take-append-drop}
 
 -- what a test lets through
 some_when : {X : Type 0} (b : Bool) (o : Option X) (x : X) → (if b then o else None) ≡ Some x → (b ≡ true) × (o ≡ Some x)

@@ -1,11 +1,7 @@
 -- The form of a property section and its reading: bytes are a section of these entries exactly where they are read as
 -- one.
-use Rattle.std.proofs.Common.{◌≡◌, ℕ, zero, suc, ◌<◌, Bool, false, inl, inr, List, [], ◌∷◌, ◌++◌, length, sym, ap, subst, ◌∙◌, arith, length-append, refl}
-use Rattle.std.specs.Prelude.{Option, Some, None, bytes_eq, ◌↔◌}
-use Rattle.std.proofs.lemmas.Bool.{cases_Bool}
-use Rattle.std.proofs.lemmas.Option.{none-some, same_Some}
-use Rattle.std.proofs.lemmas.Slice.Eq.{bytes_eq-Decides}
-use Rattle.svn_dump.specs.Property.{SectionEntry, entry_of, section_end, section_up_to, section_of, IsSection}
+use Rattle.svn_dump.proofs.Common.{◌≡◌, ℕ, zero, suc, ◌<◌, Bool, false, inl, inr, List, [], ◌∷◌, ◌++◌, length, sym, ap, subst, ◌∙◌, arith, length-append, refl, Option, Some, None, bytes_eq, cases_Bool, none-some, same_Some, bytes_eq-Decides, SectionEntry, entry_of, section_end, section_up_to, section_of, IsSection}
+use Rattle.std.specs.Prelude.{◌↔◌}
 use Rattle.svn_dump.proofs.EntriesRead.{IsSectionEntry-entry_of, IsSectionEntry-goes_on, entry_of-IsSectionEntry, length-IsSectionEntry}
 use Rattle.svn_dump.proofs.MiTexts.{with_first, section_up_to-end, section_up_to-no_entry, section_up_to-more}
 

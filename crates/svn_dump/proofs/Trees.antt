@@ -1,12 +1,7 @@
 -- What a tree has at one path, after each operation on trees and after each action of a record.
-use Rattle.std.proofs.Common.{◌≡◌, ℕ, Bool, false, not, if◌then◌else◌, List, [], ◌∷◌, ◌++◌, Option, None, Some, is_some, option_map, filter, filter_map, refl, ap, ◌∙◌, arith}
-use Rattle.std.specs.Option.{option_or, option_map_or}
-use Rattle.svn_path.specs.Below.{below, is_below, same_path}
-use Rattle.svn_dump.specs.History.{Setting, Action, delete, change, add, copy}
-use Rattle.svn_dump.specs.Tree.{Tree, Entry, entry_at, mergeinfo_after, tree_without, tree_with_mergeinfo, entry_of_copy, tree_of, tree_after_action, first_tree, tree_from_revision}
-use Rattle.svn_dump.specs.declared.record.Kind.{Kind}
+use Rattle.svn_dump.proofs.Common.{◌≡◌, ℕ, Bool, false, not, if◌then◌else◌, List, [], ◌∷◌, ◌++◌, filter_map, refl, ap, ◌∙◌, arith, option_or, option_map_or, below, is_below, same_path, Setting, Action, delete, change, add, copy, Tree, Entry, entry_at, mergeinfo_after, tree_without, tree_with_mergeinfo, entry_of_copy, tree_of, tree_after_action, first_tree, tree_from_revision, Kind, IsSame, below-itself, same_path-is}
+use Rattle.std.proofs.Common.{Option, None, Some, is_some, option_map, filter}
 use Rattle.svn_dump.specs.declared.record.Kind.TheVariants.{Dir}
-use Rattle.svn_path.proofs.Belows.{IsSame, below-itself, same_path-is}
 use Rattle.svn_dump.proofs.Belows.{same_path_front, same_path_by_below, same_path_comm, same_path_moved, other_from_below, apart_from_below}
 
 -- the entry with the mergeinfo that a record leaves

@@ -1,40 +1,9 @@
 -- Bytes that decide no refusal: inputs that begin with them are refused for different reasons, or one of them for none.
-use Rattle.std.proofs.Common.{◌≡◌, ◌≢◌, ℕ, zero, suc, pred, ◌<◌, ◌≤◌, nat_le, Bool, true, false, ◌||◌, List, [], ◌∷◌, ◌++◌, length, drop, replicate, take, inl, inr, refl, sym, ap, subst, ◌∙◌, append_assoc, append-nil, take-append-drop, length-append, arith}
-use Rattle.std.specs.Prelude.{Option, Some, None, flat_map, option_and_then}
-use Rattle.std.specs.List.{list_all, list_any}
-use Rattle.std.specs.Option.{option_or}
-use Rattle.std.proofs.lemmas.List.Elements.{All-nil}
-use Rattle.std.proofs.lemmas.Bool.{and_parts, cases_Bool, cases_lt, cond-false, cond-true, leb-true, or_right}
-use Rattle.std.proofs.lemmas.List.{length-replicate}
-use Rattle.std.proofs.lemmas.List.Folds.{list_any-append}
-use Rattle.std.proofs.lemmas.Option.{none-some, same_Some}
-use Rattle.svn_text.specs.Line.{is_newline, line_text}
-use Rattle.svn_dump.specs.Block.{IsHeader, body_length}
-use Rattle.svn_dump.specs.Decided.{IsUndecided}
-use Rattle.svn_dump.specs.Draft.{dump_of}
-use Rattle.svn_dump.specs.Dump.{DumpValue, history_in_bytes}
-use Rattle.svn_dump.specs.DumpError.{IsFirstAt}
-use Rattle.svn_dump.specs.DumpText.{first_line}
-use Rattle.svn_dump.specs.FirstRefusal.{RefusalAt, after_block, block_at, block_refusal, end_refusal, first_refusal, front_refusals, has_twice, header_lines, is_no_header, line_refusals, magic, refusal_from, refusal_or}
-use Rattle.svn_dump.specs.Field.{fields_of}
-use Rattle.svn_dump.specs.Format.{version}
-use Rattle.svn_dump.specs.HeaderValues.{body_length_from_headers}
-use Rattle.svn_dump.specs.Node.{BlockContent, Node, NodeAction, node_block, other_block, revision_block, uuid_block}
-use Rattle.svn_dump.specs.PartialHeader.{AreHeaderLines, IsHeaderFront}
-use Rattle.svn_dump.specs.PartialLine.{IsPartialLine}
-use Rattle.svn_dump.specs.Reader.{BeginsBlock, HasReadAll, IsIn, IsInBody, IsInHeader, IsReadAs}
-use Rattle.svn_dump.specs.Record.{HistoryOfBytes, content_of, with_block, with_content}
-use Rattle.svn_dump.specs.Refusal.{Reason, first_holding, grows_large, later_refusals, node_refusals, number_of_refusal, refusals_by, content_refusals}
-use Rattle.svn_dump.specs.declared.grammar.format.Format.{Format}
-use Rattle.svn_dump.specs.declared.grammar.format.Format.TheVariants.{Two, Three}
-use Rattle.svn_dump.specs.declared.pieces.partial_body.PartialBody.{PartialBody}
-use Rattle.svn_dump.specs.declared.pieces.partial_line.PartialLine.{PartialLine}
+use Rattle.svn_dump.proofs.Common.{◌≡◌, ◌≢◌, ℕ, zero, suc, pred, ◌<◌, ◌≤◌, Bool, true, false, ◌||◌, List, [], ◌∷◌, ◌++◌, length, drop, replicate, take, inl, inr, refl, sym, ap, subst, ◌∙◌, append_assoc, append-nil, take-append-drop, length-append, arith, Option, Some, None, flat_map, option_and_then, list_all, list_any, option_or, All-nil, and_parts, cases_Bool, cases_lt, cond-false, cond-true, leb-true, or_right, length-replicate, list_any-append, none-some, same_Some, is_newline, line_text, IsHeader, body_length, IsUndecided, dump_of, DumpValue, history_in_bytes, IsFirstAt, first_line, RefusalAt, after_block, block_at, block_refusal, end_refusal, first_refusal, front_refusals, has_twice, header_lines, is_no_header, line_refusals, magic, refusal_from, refusal_or, fields_of, version, body_length_from_headers, BlockContent, Node, NodeAction, node_block, other_block, revision_block, uuid_block, AreHeaderLines, IsHeaderFront, IsPartialLine, BeginsBlock, HasReadAll, IsIn, IsInBody, IsInHeader, IsReadAs, HistoryOfBytes, content_of, with_block, with_content, Reason, first_holding, grows_large, later_refusals, node_refusals, number_of_refusal, refusals_by, content_refusals, Format, Two, Three, PartialBody, PartialLine, Reader, Refusal, Header, Length, Revision, Truncated}
+use Rattle.std.proofs.Common.{nat_le}
 use Rattle.svn_dump.specs.declared.pieces.partial_line.PartialLine.TheVariants as line
 use Rattle.svn_dump.specs.declared.pieces.reader.Progress.{Progress}
 use Rattle.svn_dump.specs.declared.pieces.reader.Progress.TheVariants as progress
-use Rattle.svn_dump.specs.declared.pieces.reader.Reader.{Reader}
-use Rattle.svn_dump.specs.declared.refusal.Refusal.{Refusal}
-use Rattle.svn_dump.specs.declared.refusal.Refusal.TheVariants.{Header, Length, Revision, Truncated}
 use Rattle.svn_dump.proofs.Blocks.{header_holds, BeginsWithLines-append}
 use Rattle.svn_dump.proofs.Fronts.{front-block, header_lines-line, header_lines-lines}
 use Rattle.svn_dump.proofs.PartialHeaders.{BeginsWithLines-front, refused-front_cut, refused-front_length}

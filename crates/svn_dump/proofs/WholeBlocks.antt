@@ -1,27 +1,6 @@
 -- Whole blocks: what they add to a history, and what stands against them after it.
-use Rattle.std.proofs.Common.{◌≡◌, ℕ, true, false, ◌&&◌, List, [], ◌∷◌, ◌++◌, length, take, inl, inr, refl, sym, ap, subst, ◌∙◌, append_assoc, append-nil, arith}
-use Rattle.std.specs.Prelude.{Option, Some, None, flat_map, is_none, is_some, option_map}
-use Rattle.std.specs.Option.{option_or}
-use Rattle.std.proofs.lemmas.Bool.{both_ways, cases_Bool}
-use Rattle.std.proofs.lemmas.List.{length-take-le}
-use Rattle.svn_text.specs.Bytes.{is_not_empty}
-use Rattle.svn_text.specs.Line.{line_text}
-use Rattle.svn_dump.specs.Block.{Block, IsBlock, block_text, body_length}
-use Rattle.svn_dump.specs.Field.{fields_of}
-use Rattle.svn_dump.specs.FirstRefusal.{block_at, block_refusal, front_refusals, header_lines}
-use Rattle.svn_dump.specs.FrontBlock.{AddsBlock, BeginsWithBlock, IsBlockRefusalFrom}
-use Rattle.svn_dump.specs.HeaderValues.{node_from_headers, content_from_headers}
-use Rattle.svn_dump.specs.Node.{Node, content_by_fields}
-use Rattle.svn_dump.specs.NumberedRecord.{IsFirstReason}
-use Rattle.svn_dump.specs.PartialHeader.{AreHeaderLines, IsDecidedFront, is_node}
-use Rattle.svn_dump.specs.Reader.{BeginsBlock, IsBodyTo}
-use Rattle.svn_dump.specs.Record.{HistoryOfBytes, node_of_block, content_of, with_content}
-use Rattle.svn_dump.specs.Refusal.{first_holding, content_refusals}
-use Rattle.svn_dump.specs.declared.grammar.format.Format.{Format}
-use Rattle.svn_dump.specs.declared.pieces.partial_body.PartialBody.{PartialBody}
-use Rattle.svn_dump.specs.declared.read_error.ReadError.{ReadError}
+use Rattle.svn_dump.proofs.Common.{◌≡◌, ℕ, true, false, ◌&&◌, List, [], ◌∷◌, ◌++◌, length, take, inl, inr, refl, sym, ap, subst, ◌∙◌, append_assoc, append-nil, arith, Option, Some, None, flat_map, is_none, is_some, option_map, option_or, both_ways, cases_Bool, length-take-le, is_not_empty, line_text, Block, IsBlock, block_text, body_length, fields_of, block_at, block_refusal, front_refusals, header_lines, AddsBlock, BeginsWithBlock, IsBlockRefusalFrom, node_from_headers, content_from_headers, Node, content_by_fields, IsFirstReason, AreHeaderLines, IsDecidedFront, is_node, BeginsBlock, IsBodyTo, HistoryOfBytes, node_of_block, content_of, with_content, first_holding, content_refusals, Format, PartialBody, ReadError, Refusal}
 use Rattle.svn_dump.specs.declared.read_error.ReadError.TheVariants as read
-use Rattle.svn_dump.specs.declared.refusal.Refusal.{Refusal}
 use Rattle.svn_dump.proofs.Fronts.{front-block}
 use Rattle.svn_dump.proofs.PartialHeaders.{header_lines-all}
 use Rattle.svn_dump.proofs.Refusals.{first_holding-append, first_holding-front}

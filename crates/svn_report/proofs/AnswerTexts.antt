@@ -1,11 +1,9 @@
 -- Texts of answers that stand at the places of their lines, and those that follow others.
-use Rattle.std.proofs.Common.{◌≡◌, ℕ, suc, ◌+◌, ◌<◌, List, [], ◌∷◌, ◌++◌, Some, length, map, slice_get, slice_index_or, arith, refl, ap, ap₂, ◌∙◌}
-use Rattle.std.specs.List.{flat_map}
+use Rattle.svn_report.proofs.Common.{◌≡◌, ℕ, suc, ◌+◌, ◌<◌, List, [], ◌∷◌, ◌++◌, Some, length, map, slice_get, slice_index_or, arith, refl, ap, ap₂, ◌∙◌, flat_map, answers_from, texts_from}
 use Rattle.std.proofs.lemmas.List.Concat.{flat_map-append}
 use Rattle.svn_dump.specs.Record.{HistoryOfBytes}
 use Rattle.query_answer.specs.Answer.{TreesOfBytes, answer_of, answer_text}
 use Rattle.query_answer.specs.Query.{query_of}
-use Rattle.svn_report.specs.Report.{answers_from, texts_from}
 
 -- the answer to the line at a place, where the first line has this number
 abbrev pub text_of : HistoryOfBytes → TreesOfBytes → ℕ → List (List ℕ) → ℕ → List ℕ

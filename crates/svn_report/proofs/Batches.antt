@@ -1,12 +1,8 @@
 -- What is answered after some batches of the query lines of a run.
-use Rattle.std.proofs.Common.{◌≡◌, ℕ, ◌+◌, ◌≤◌, List, [], ◌++◌, length, take, drop, arith, refl, sym, ap, ◌∙◌}
+use Rattle.svn_report.proofs.Common.{◌≡◌, ℕ, ◌+◌, ◌≤◌, List, [], ◌++◌, length, take, drop, arith, refl, sym, ap, ◌∙◌, length-map, length-take-le, map-append, take-append-drop, DumpValue, history_in_bytes, answers_to_batch, lent_lines, answers_from, texts_from}
 use denote.Ref.{Bor}
 use Rattle.std.proofs.Math.Seq.{take-append-add}
-use Rattle.std.proofs.lemmas.List.{length-map, length-take-le, map-append, take-append-drop}
-use Rattle.svn_dump.specs.Dump.{DumpValue, history_in_bytes}
 use Rattle.query_answer.specs.Repo.{trees_in_bytes}
-use Rattle.svn_report.specs.Answering.{answers_to_batch, lent_lines}
-use Rattle.svn_report.specs.Report.{answers_from, texts_from}
 use Rattle.svn_report.proofs.AnswerTexts.{answers_from-append}
 
 take-add : (done count : ℕ) (lines : List (Bor (List ℕ))) → done ≤ length lines → take (done + count) lines ≡ take done lines ++ take count (drop done lines)

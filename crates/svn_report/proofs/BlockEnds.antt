@@ -1,18 +1,13 @@
 -- The ends of blocks, and the borders of groups of neighbouring blocks, rise from the first one to the last one.
-use Rattle.std.proofs.Common.{◌≡◌, ℕ, ◌+◌, ◌-◌, ◌*◌, ◌<◌, ◌≤◌, min, sum, List, length, map, get_or, sym, ap, ap₂, subst, ◌∙◌, ◌⊎◌, inl, inr, [], ◌∷◌, ◌++◌, All, arith}
+use Rattle.svn_report.proofs.Common.{◌≡◌, ℕ, ◌+◌, ◌-◌, ◌*◌, ◌<◌, ◌≤◌, min, sum, List, length, map, get_or, sym, ap, ap₂, subst, ◌∙◌, ◌⊎◌, inl, inr, [], ◌∷◌, ◌++◌, All, arith, range_with_len, get_or-map, get_or_default, length-map, length_push, map_push, sum_by-take-le, AreBorders, AreBlockEnds, AreGroupBorders, IsGroupEnd, LeavesBlocks, block_length, distance, end_of_blocks, last_border}
 use Rattle.std.specs.Int.{abs_diff}
-use Rattle.std.specs.List.{range_with_len}
 use Rattle.std.specs.List.Sorted.{IsNonDecreasing}
 use Rattle.std.proofs.Math.ListN.{get_or-append}
 use Rattle.std.proofs.Math.Nat.{eq-or-lt_of_le, mul-le-mul_left}
 use Rattle.std.proofs.Math.Seq.{get_or-append_seam}
 use Rattle.std.proofs.lemmas.Bool.{cases_lt}
-use Rattle.std.proofs.lemmas.List.{get_or-map, get_or_default, length-map, length_push, map_push}
 use Rattle.std.proofs.lemmas.List.FromFn.{get_or-map-range_with_len, map-range_with_len_more, sum_by-map-range_with_len_more, take-map-range_with_len}
 use Rattle.std.proofs.lemmas.List.Sorted.{IsNonDecreasingBy-from_all_adjacent}
-use Rattle.std.proofs.lemmas.List.Sums.{sum_by-take-le}
-use Rattle.svn_report.specs.Blocks.{AreBorders}
-use Rattle.svn_report.specs.Cutting.{AreBlockEnds, AreGroupBorders, IsGroupEnd, LeavesBlocks, block_length, distance, end_of_blocks, last_border}
 
 -- more blocks end no earlier
 end_of_blocks-le : (cuts : List ℕ) (last i j : ℕ) → i ≤ j → end_of_blocks cuts last i ≤ end_of_blocks cuts last j

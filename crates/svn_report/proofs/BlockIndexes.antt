@@ -1,14 +1,9 @@
 -- The indexes of blocks meet, and joined they are of all records.
-use Rattle.std.proofs.Common.{◌≡◌, ℕ, suc, ◌+◌, ◌-◌, ◌<◌, ◌≤◌, List, [], ◌∷◌, ◌++◌, length, get_or, drop, refl, sym, ap, ◌∙◌, arith, append-nil, length-take, length-drop}
-use Rattle.std.specs.List.{slice_range}
-use Rattle.std.proofs.lemmas.List.{drop_all}
+use Rattle.svn_report.proofs.Common.{◌≡◌, ℕ, suc, ◌+◌, ◌-◌, ◌<◌, ◌≤◌, List, [], ◌∷◌, ◌++◌, length, get_or, drop, refl, sym, ap, ◌∙◌, arith, append-nil, length-take, length-drop, slice_range, drop_all, NodeRecord, IsChain, IsJoined, Meet, act_all, AreBorders, IsIndexOfBlock}
 use Rattle.std.proofs.lemmas.List.Folds.{drop_split}
-use Rattle.svn_dump.specs.declared.record.NodeRecord.{NodeRecord}
-use Rattle.par_scan.specs.Chain.{IsChain, IsJoined, Meet, act_all}
 use Rattle.par_scan.specs.Weightless.{no_weight}
 use Rattle.path_index.specs.Index.{IndexValue}
 use Rattle.path_index.specs.Joining.{put_records_before, records_before, records_up_to_end}
-use Rattle.svn_report.specs.Blocks.{AreBorders, IsIndexOfBlock}
 
 -- each index is of the records of the block of its number
 abbrev pub AreIndexesOfBlocks : List NodeRecord → List ℕ → List IndexValue → Type 0

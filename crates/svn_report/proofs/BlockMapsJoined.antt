@@ -1,25 +1,16 @@
 -- The maps of blocks meet, and joined they are of all records.
-use Rattle.std.proofs.Common.{◌≡◌, ℕ, suc, ◌+◌, ◌-◌, ◌<◌, ◌≤◌, List, [], ◌∷◌, ◌++◌, length, get_or, drop, refl, sym, ap, ◌∙◌, arith, length-take, length-drop}
-use Rattle.std.specs.List.{slice_range, sum_by}
-use Rattle.std.proofs.lemmas.List.{drop_all, length-map, map-append}
+use Rattle.svn_report.proofs.Common.{◌≡◌, ℕ, suc, ◌+◌, ◌-◌, ◌<◌, ◌≤◌, List, [], ◌∷◌, ◌++◌, length, get_or, drop, refl, sym, ap, ◌∙◌, arith, length-take, length-drop, slice_range, sum_by, drop_all, length-map, map-append, sum_by-append, sum_by-cons, same_name, DumpValue, record_view, NodeRecord, ends_of, record_at_tick, IsChain, IsJoined, Meet, act_all, AreBorders, IsMapOfBlock}
 use Rattle.std.proofs.lemmas.List.Folds.{drop_split}
-use Rattle.std.proofs.lemmas.List.Sums.{sum_by-append, sum_by-cons}
-use Rattle.svn_path.specs.Path.{same_name}
 use Rattle.svn_path.specs.declared.names.NameId.{NameId}
-use Rattle.svn_dump.specs.Dump.{DumpValue, record_view}
 use Rattle.svn_dump.specs.History.{Record}
-use Rattle.svn_dump.specs.declared.record.NodeRecord.{NodeRecord}
 use Rattle.svn_dump.specs.declared.record.ValueId.{ValueId}
-use Rattle.block_map.specs.Ends.{ends_of, record_at_tick}
 use Rattle.block_map.specs.Joining.{MapPoint, found, count, act_on_point, tick_before}
 use Rattle.block_map.specs.Look as look
 use Rattle.block_map.specs.Look.{Found, at, absent, resolved}
 use Rattle.block_map.specs.LookThrough.{look_through}
 use Rattle.block_map.specs.Map.{IsMapOf, MapValue, hi_of, nodes_for, records_at_ticks}
 use Rattle.block_map.proofs.LooksThrough.{look_from-within, look_through-append, look_through-none}
-use Rattle.par_scan.specs.Chain.{IsChain, IsJoined, Meet, act_all}
 use Rattle.par_scan.specs.Weightless.{no_weight}
-use Rattle.svn_report.specs.Blocks.{AreBorders, IsMapOfBlock}
 use Rattle.svn_report.proofs.BlockIndexes.{AreBorders-tail, border-le}
 
 -- ---- nodes

@@ -1,8 +1,7 @@
 -- The front of a dump that a device gave to a reader.
-use Rattle.std.proofs.Common.{◌≡◌, ℕ, ◌≤◌, List, ◌++◌, Option, length, take, inl, inr, IsFalse}
+use Rattle.svn_report.proofs.Common.{◌≡◌, ℕ, ◌≤◌, List, ◌++◌, Option, length, take, inl, inr, IsFalse, take-append-le, take-take}
 use Rattle.std.specs.Io.KnownBytes.{Consumes}
 use Rattle.std.proofs.KnownBytes.{Consumes-trans}
-use Rattle.std.proofs.lemmas.List.{take-append-le, take-take}
 use Rattle.devices.specs.Device.{PullState}
 use Rattle.svn_dump.specs.Decided.{IsDecidedError, IsUndecided}
 use Rattle.svn_dump.specs.Feed.{FeedValue, HasRead}

@@ -1,18 +1,12 @@
 -- A map of a dump that has grown, and what is known of its records.
-use Rattle.std.proofs.Common.{◌≡◌, ℕ, ◌+◌, ◌<◌, ◌≤◌, List, [], ◌++◌, None, Some, drop, length, sym, ap, subst, ◌∙◌, append-nil, arith, length-append}
+use Rattle.svn_report.proofs.Common.{◌≡◌, ℕ, ◌+◌, ◌<◌, ◌≤◌, List, [], ◌++◌, None, Some, drop, length, sym, ap, subst, ◌∙◌, append-nil, arith, length-append, drop_at, length-map, same_name, DumpValue, IsDump, history_view, record_view, NodeRecord, HasSourceBefore, HaveSources, ends_of, record_at_tick, AreOfDumpBefore}
 use Rattle.std.specs.List.{slice_get}
-use Rattle.std.proofs.lemmas.List.{drop_at, length-map}
-use Rattle.svn_path.specs.Path.{same_name}
-use Rattle.svn_dump.specs.Dump.{DumpValue, IsDump, history_view, record_view}
 use Rattle.svn_dump.specs.State.{fault_of_next_record}
-use Rattle.svn_dump.specs.declared.record.NodeRecord.{NodeRecord}
 use Rattle.svn_dump.proofs.Lists.{slice_get-second}
 use Rattle.path_index.specs.Index.{IndexValue}
-use Rattle.block_map.specs.Ends.{HasSourceBefore, HaveSources, ends_of, record_at_tick}
 use Rattle.block_map.specs.Map.{IsMapOf, IsMapOfFirstRecords, MapValue, hi_of, records_at_ticks}
 use Rattle.block_map.proofs.GrownDumps.{IsMapOfFirstRecords-grown_dump, fine-grown}
 use Rattle.block_map.proofs.Sources.{HaveSources-dump}
-use Rattle.svn_report.specs.LoadRepo.{AreOfDumpBefore}
 
 module _ {dump : DumpValue} {index : IndexValue} {map : MapValue} (before : AreOfDumpBefore dump index map) where
   -- the records that came

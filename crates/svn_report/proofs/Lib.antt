@@ -1,3 +1,4 @@
+mod Common
 mod AnswerTexts
 mod Batches
 mod BlockEnds

@@ -1,12 +1,8 @@
 -- Why a dump has no repository.
-use Rattle.std.proofs.Common.{◌≡◌, Some, sym, ◌∙◌}
-use Rattle.svn_path.specs.Path.{same_name}
-use Rattle.svn_dump.specs.Dump.{DumpValue, IsDump, history_view}
+use Rattle.svn_report.proofs.Common.{◌≡◌, Some, sym, ◌∙◌, same_name, DumpValue, IsDump, history_view, first_fault-in_bytes, IsLoadError}
 use Rattle.svn_dump.specs.Fault.{first_fault}
 use Rattle.block_map.specs.FaultKind.{fault_view}
 use Rattle.block_map.specs.declared.fault.Fault.{Fault}
-use Rattle.query_answer.proofs.InBytes.{first_fault-in_bytes}
-use Rattle.svn_report.specs.LoadRepo.{IsLoadError}
 use Rattle.svn_report.specs.declared.repository.LoadError.TheVariants as error
 
 -- the first faulty record by numbers is that in bytes

@@ -1,9 +1,8 @@
 -- Lines of a list of queries, by the cuts of the list.
-use Rattle.std.proofs.Common.{◌≡◌, ℕ, ◌==◌, List, [], ◌∷◌, length, false, true≢false, refl}
+use Rattle.svn_report.proofs.Common.{◌≡◌, ℕ, ◌==◌, List, [], ◌∷◌, length, false, true≢false, refl, query_lines, without_last_empty}
 use Rattle.svn_text.specs.Cut.{Lacks}
 use Rattle.svn_text.proofs.Cuts.{CutsFirst, slice_split-cut, slice_split-uncut}
 use Rattle.query_answer.proofs.Queries.{slice_split-some}
-use Rattle.svn_report.specs.QueryLines.{query_lines, without_last_empty}
 
 -- a line before others stays
 without_last_empty-cons : (line next : List ℕ) (lines : List (List ℕ)) → without_last_empty (line ∷ next ∷ lines) ≡ line ∷ without_last_empty (next ∷ lines)

@@ -1,25 +1,16 @@
 -- The sums of the counts of revisions, and the borders between blocks of records.
-use Rattle.std.proofs.Common.{◌≡◌, ℕ, zero, suc, ◌+◌, ◌-◌, ◌^◌, ◌<◌, ◌≤◌, sum, List, [], ◌∷◌, length, map, get_or, take, refl, sym, ap, subst, ◌∙◌, arith}
+use Rattle.svn_report.proofs.Common.{◌≡◌, ℕ, zero, suc, ◌+◌, ◌-◌, ◌^◌, ◌<◌, ◌≤◌, sum, List, [], ◌∷◌, length, map, get_or, take, refl, sym, ap, subst, ◌∙◌, arith, range_with_len, sum_by, ext_get_or, get_or-map, length-map, take-map, take-take, take_all, sum_by-cons, sum_by-take-le, DumpValue, IsDump, revisions_from, NodeRecord, AreJoinedUpTo, IsChain, Meet, end_of, ends_of, ends_view, AreBorders, last_border, AreRecordEnds, sum_at, sum_of}
 use Rattle.std.specs.declared.alloc.AllocError.{AllocError}
 use Rattle.std.specs.Prelude.{Err, IfOk, Ok, Result, Vec, vec_len}
 use Rattle.std.specs.Global.{Global}
-use Rattle.std.specs.List.{All, range_with_len, sum_by}
-use Rattle.std.proofs.lemmas.List.{ext_get_or, get_or-map, length-map, take-map, take-take, take_all}
+use Rattle.std.specs.List.{All}
 use Rattle.std.proofs.lemmas.List.Elements.{All-from_get_or, All-map}
-use Rattle.std.proofs.lemmas.List.Sums.{sum_by-cons, sum_by-take-le}
-use Rattle.svn_dump.specs.Dump.{DumpValue, IsDump, revisions_from}
-use Rattle.svn_dump.specs.declared.record.NodeRecord.{NodeRecord}
 use Rattle.svn_dump.proofs.Lists.{map-same}
 use Rattle.query_answer.proofs.RevisionTicks.{sum-counts}
-use Rattle.par_scan.specs.Chain.{AreJoinedUpTo, IsChain, Meet}
 use Rattle.par_scan.specs.Sum.{add_sum, no_border, sum_weighs, sum_weight}
 use Rattle.par_scan.specs.declared.sum.Sum.{Sum}
-use Rattle.block_map.specs.Ends.{end_of, ends_of, ends_view}
 use Rattle.block_map.proofs.RevisionEnds.{ends_of-at, length-ends_of}
 use Rattle.block_map.proofs.RevisionStates.{end_of-within}
-use Rattle.svn_report.specs.Blocks.{AreBorders}
-use Rattle.svn_report.specs.Cutting.{last_border}
-use Rattle.svn_report.specs.RecordEnds.{AreRecordEnds, sum_at, sum_of}
 
 -- sums stand between no borders
 Meet-sums : (sums : List Sum) → Meet no_border no_border sums

@@ -1,6 +1,5 @@
 -- The report on a history.
-use Rattle.svn_dump.specs.Dump.{DumpValue, history_in_bytes}
-use Rattle.svn_report.specs.LoadRepo.{IsLoadError}
+use Rattle.svn_report.proofs.Common.{DumpValue, history_in_bytes, IsLoadError}
 use Rattle.svn_report.specs.ReportError.{IsHistoryError, run_error_of_load}
 use Rattle.svn_report.specs.declared.repository.LoadError.{LoadError}
 use Rattle.svn_report.specs.declared.repository.LoadError.TheVariants as error

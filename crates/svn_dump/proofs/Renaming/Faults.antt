@@ -1,11 +1,7 @@
 -- A renamed history has the same faults.
-use Rattle.std.proofs.Common.{◌≡◌, ℕ, ◌+◌, Bool, true, false, if◌then◌else◌, List, [], ◌∷◌, Option, None, Some, option_map, map, length, refl, ap, ◌∙◌, arith}
-use Rattle.std.proofs.lemmas.List.{length-map}
-use Rattle.std.specs.Option.{option_or}
-use Rattle.svn_path.specs.Below.{parent_of}
+use Rattle.svn_dump.proofs.Common.{◌≡◌, ℕ, ◌+◌, Bool, true, false, if◌then◌else◌, List, [], ◌∷◌, map, length, refl, ap, ◌∙◌, arith, length-map, option_or, parent_of, Action, delete, change, add, copy, Record, History, rename_action, rename_record, rename_history, Tree, Entry, entry_at, is_there, tree_of, tree_after_record, start_tree, with_revision}
+use Rattle.std.proofs.Common.{Option, None, Some, option_map}
 use Rattle.svn_dump.specs.Fault.{no_source, is_dir, has_parent, fault_if_missing, fault_of_new_path, fault_of_target, fault_of_source, fault_of, first_fault_in, first_fault_from, first_fault}
-use Rattle.svn_dump.specs.History.{Action, delete, change, add, copy, Record, History, rename_action, rename_record, rename_history}
-use Rattle.svn_dump.specs.Tree.{Tree, Entry, entry_at, is_there, tree_of, tree_after_record, start_tree, with_revision}
 use Rattle.svn_dump.proofs.Renaming.Paths.{KeepsSame, parent_of-rename}
 use Rattle.svn_dump.proofs.Renaming.Trees.{rename_entry, rename_tree, tree_of-rename, start_tree-rename, entry_at-rename, is_there-rename, apply-rename, with_revision-rename}
 

@@ -1,7 +1,6 @@
 -- The origins and locations in a renamed history.
-use Rattle.std.proofs.Common.{◌≡◌, ℕ, zero, suc, ◌==◌, nat_lt, Bool, true, false, if◌then◌else◌, List, Option, None, Some, option_map, option_and_then, map, refl, ap, ◌∙◌, arith}
-use Rattle.svn_dump.specs.Location.{origin_of, location_within, location}
-use Rattle.svn_dump.specs.Tree.{Tree, Entry, entry_at, tree_of}
+use Rattle.svn_dump.proofs.Common.{◌≡◌, ℕ, zero, suc, Bool, true, false, if◌then◌else◌, List, map, refl, ap, ◌∙◌, arith, origin_of, location_within, location, Tree, Entry, entry_at, tree_of}
+use Rattle.std.proofs.Common.{◌==◌, nat_lt, Option, None, Some, option_map, option_and_then}
 use Rattle.svn_dump.proofs.Locations.{step_back}
 use Rattle.svn_dump.proofs.Renaming.Paths.{KeepsSame}
 use Rattle.svn_dump.proofs.Renaming.Trees.{rename_entry, rename_tree, rename_origin, tree_of-rename, entry_at-rename}

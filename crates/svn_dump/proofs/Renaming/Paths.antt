@@ -1,6 +1,6 @@
 -- Renamed paths, under a map of components that keeps which of them are the same.
-use Rattle.std.proofs.Common.{◌≡◌, ℕ, zero, suc, ◌<◌, Bool, false, if◌then◌else◌, List, [], ◌∷◌, Contains, option_map, map, get_or, length, refl, ap, ◌∙◌, arith}
-use Rattle.svn_path.specs.Below.{below, is_below, same_path, parent_of}
+use Rattle.svn_dump.proofs.Common.{◌≡◌, ℕ, zero, suc, ◌<◌, Bool, false, if◌then◌else◌, List, [], ◌∷◌, Contains, map, get_or, length, refl, ap, ◌∙◌, arith, below, is_below, same_path, parent_of}
+use Rattle.std.proofs.Common.{option_map}
 
 -- components are the same where their names are
 abbrev pub KeepsSame : {C D : Type 0} → (C → D) → (C → C → Bool) → (D → D → Bool) → Type 0

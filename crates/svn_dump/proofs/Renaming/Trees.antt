@@ -1,10 +1,6 @@
 -- The trees of a renamed history.
-use Rattle.std.proofs.Common.{◌≡◌, ℕ, zero, suc, Bool, true, false, if◌then◌else◌, List, [], ◌∷◌, ◌++◌, Option, None, Some, Contains, option_map, filter_map, map, fold, length, refl, sym, ap, ◌∙◌, arith}
-use Rattle.std.proofs.lemmas.List.{map-append, length-map}
-use Rattle.std.specs.List.{cons_option}
-use Rattle.svn_path.specs.Below.{below, same_path}
-use Rattle.svn_dump.specs.History.{Setting, keep, put, Action, delete, change, add, copy, Record, History, rename_setting, rename_action, rename_record, rename_history}
-use Rattle.svn_dump.specs.Tree.{Tree, Entry, entry_at, is_there, mergeinfo_after, tree_without, tree_with_mergeinfo, entry_of_copy, tree_of, tree_after_action, tree_after_record, tree_from_revision, start_tree, end_tree, with_revision, trees_of}
+use Rattle.svn_dump.proofs.Common.{◌≡◌, ℕ, zero, suc, Bool, true, false, if◌then◌else◌, List, [], ◌∷◌, ◌++◌, Contains, filter_map, map, fold, length, refl, sym, ap, ◌∙◌, arith, map-append, length-map, cons_option, below, same_path, Setting, keep, put, Action, delete, change, add, copy, Record, History, rename_setting, rename_action, rename_record, rename_history, Tree, Entry, entry_at, is_there, mergeinfo_after, tree_without, tree_with_mergeinfo, entry_of_copy, tree_of, tree_after_action, tree_after_record, tree_from_revision, start_tree, end_tree, with_revision, trees_of}
+use Rattle.std.proofs.Common.{Option, None, Some, option_map}
 use Rattle.svn_dump.proofs.Renaming.Paths.{KeepsSame, below-rename, is_below-rename, same_path-rename, same_path_unnamed}
 use Rattle.svn_dump.proofs.Trees.{settled_entry, entry_from}
 

@@ -1,6 +1,4 @@
-use Rattle.std.proofs.Common.{◌≡◌, ◌+◌, ◌-◌, Some, option_map, ap, sym, ◌∙◌, arith}
-use Rattle.svn_dump.specs.Dump.{history_view}
-use Rattle.svn_path.specs.Path.{same_name}
+use Rattle.block_map.proofs.Common.{◌≡◌, ◌+◌, ◌-◌, Some, option_map, ap, sym, ◌∙◌, arith, history_view, same_name}
 use Rattle.block_map.specs.FaultKind.{kind_view}
 use Rattle.block_map.proofs.FirstFaults.{first_fault-least, first_fault_of_dump-none}
 use Rattle.block_map.proofs.faults.check_from.Goals as goal

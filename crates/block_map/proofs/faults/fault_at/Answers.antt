@@ -1,17 +1,5 @@
-use Rattle.std.proofs.Common.{◌≡◌, ℕ, List, ◌+◌, ◌-◌, ◌<◌, Some, get_or, length, option_map, sym, ap, subst, ◌∙◌, arith}
-use Rattle.std.specs.Prelude.{slice_get}
-use Rattle.std.proofs.lemmas.Option.{slice_get-get_or}
-use Rattle.std.proofs.lemmas.Result.{IfOk-weaker}
-use Rattle.svn_path.specs.Path.{same_name}
-use Rattle.svn_dump.specs.Dump.{DumpValue, IsDump, history_view}
-use Rattle.svn_dump.specs.declared.record.NodeRecord.{NodeRecord}
-use Rattle.block_map.specs.Trees.{action_in}
-use Rattle.svn_dump.specs.State.{fault_of_next_record}
-use Rattle.block_map.specs.FaultFound.{fault_found}
+use Rattle.block_map.proofs.Common.{◌≡◌, ℕ, List, ◌+◌, ◌-◌, ◌<◌, Some, get_or, length, option_map, sym, ap, subst, ◌∙◌, arith, slice_get, slice_get-get_or, IfOk-weaker, same_name, DumpValue, IsDump, history_view, NodeRecord, action_in, fault_of_next_record, fault_found, HasSourceBefore, ends_of, standings_in, state_in, standing_at}
 use Rattle.block_map.specs.FaultKind.{kind_view}
-use Rattle.block_map.specs.Ends.{HasSourceBefore, ends_of}
-use Rattle.block_map.specs.Map.{standings_in, state_in}
-use Rattle.block_map.specs.Standing.{standing_at}
 use Rattle.block_map.proofs.FaultsFound.{fault_of_next_record-found}
 use Rattle.block_map.proofs.FaultsSame.{fault_found-same}
 use Rattle.block_map.proofs.Sources.{HaveSources-dump}

@@ -1,18 +1,10 @@
-use Rattle.std.proofs.Common.{◌≡◌, ◌⊎◌, inl, inr, ℕ, ◌+◌, ◌-◌, ◌<◌, ◌≤◌, List, Option, None, Some, length, get_or, unwrap_or, ap, subst, ◌∙◌, arith}
-use Rattle.std.specs.List.{AllZip}
+use Rattle.block_map.proofs.Common.{◌≡◌, ◌⊎◌, inl, inr, ℕ, ◌+◌, ◌-◌, ◌<◌, ◌≤◌, List, Option, None, Some, length, get_or, unwrap_or, ap, subst, ◌∙◌, arith, AllZip, cases_lt, AllZip-get_or, DumpValue, history_view, fault_of_next_record, same_name, ends_of, IsMapOf}
 use Rattle.std.specs.Ordering.{nat_cmp}
-use Rattle.std.proofs.lemmas.Bool.{cases_lt}
-use Rattle.std.proofs.lemmas.List.Elements.{AllZip-get_or}
 use Rattle.std.proofs.lemmas.List.FromFn.{get_or-range_with_len, length-range_with_len}
 use Rattle.std.proofs.lemmas.Slice.Zip.{AllZip-long}
 use Rattle.rayon.specs.Lists.{IsLeast, range_start, range_end}
 use Rattle.rayon.specs.Numbers.{nat_range}
 use Rattle.rayon.proofs.ToStd.{nat_range-All, IsLeast-All}
-use Rattle.svn_dump.specs.Dump.{DumpValue, history_view}
-use Rattle.svn_dump.specs.State.{fault_of_next_record}
-use Rattle.svn_path.specs.Path.{same_name}
-use Rattle.block_map.specs.Ends.{ends_of}
-use Rattle.block_map.specs.Map.{IsMapOf}
 use Rattle.block_map.proofs.faults.least_suspect.Goals as goal
 
 -- the record of an index has no fault

@@ -1,12 +1,4 @@
-use Rattle.std.proofs.Common.{◌≡◌, ℕ, List, [], ◌∷◌, ◌++◌, Option, Some, None, option_map, sym, ap, ◌∙◌, false}
-use Rattle.block_map.specs.FaultFound.{Standings}
-use Rattle.svn_dump.specs.declared.record.ValueId.{ValueId}
-use Rattle.svn_path.specs.Below.{parent_of}
-use Rattle.svn_path.specs.declared.names.NameId.{NameId}
-use Rattle.svn_path.proofs.Belows.{parent_of-push}
-use Rattle.block_map.specs.FaultFound.{has_parent_standing, is_dir_standing}
-use Rattle.block_map.specs.Map.{standings_in}
-use Rattle.block_map.specs.Standing.{entry_view, standing_of}
+use Rattle.block_map.proofs.Common.{◌≡◌, ℕ, List, [], ◌∷◌, ◌++◌, Option, Some, None, option_map, sym, ap, ◌∙◌, false, Standings, ValueId, parent_of, NameId, parent_of-push, has_parent_standing, is_dir_standing, standings_in, entry_view, standing_of}
 use Rattle.block_map.specs.declared.entry.Entry.{Entry}
 use Rattle.block_map.proofs.faults.parent_and_entry.Goals as goal
 

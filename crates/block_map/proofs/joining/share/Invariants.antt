@@ -1,5 +1,4 @@
-use Rattle.std.proofs.Common.{◌≡◌, ◌++◌, take}
-use Rattle.block_map.specs.Blocks.{block_trees}
+use Rattle.block_map.proofs.Common.{◌≡◌, ◌++◌, take, block_trees}
 use Rattle.block_map.proofs.joining.share.Given as goal
 
 abbrev pub invariant-loop-block : goal.invariant-loop-block

@@ -1,14 +1,7 @@
-use Rattle.std.proofs.Common.{rules, ◌≡◌, ℕ, ◌+◌, ◌<◌, ◌≤◌, ltb, true, false, drop, take, get_or, ap, sym, ◌∙◌, arith, length-drop, length-take}
-use Rattle.std.specs.Arc.{arc_value}
-use Rattle.std.specs.declared.sync.Arc.{Arc}
-use Rattle.std.specs.Global.{Global}
+use Rattle.block_map.proofs.Common.{rules, ◌≡◌, ℕ, ◌+◌, ◌<◌, ◌≤◌, ltb, true, false, drop, take, get_or, ap, sym, ◌∙◌, arith, length-drop, arc_value, Arc, Global, ltb-true, ltb-false, get_or-drop, get_or-take, map-append, take-append-drop, All-map, block_trees, Trees}
+use Rattle.std.proofs.Common.{length-take}
 use Rattle.std.specs.List.Sorted.{IsPartitionPoint}
-use Rattle.std.proofs.lemmas.Bool.{ltb-true, ltb-false}
-use Rattle.std.proofs.lemmas.List.{get_or-drop, get_or-take, map-append, take-append-drop}
-use Rattle.std.proofs.lemmas.List.Elements.{All-map}
 use Rattle.std.proofs.lemmas.List.Sorted.{IsPartitionedBy-ltb, IsPartitionPoint-from_clause}
-use Rattle.block_map.specs.Blocks.{block_trees}
-use Rattle.block_map.specs.declared.trees.Trees.{Trees}
 use Rattle.block_map.proofs.BlocksOfMaps.{starts-rise}
 use Rattle.block_map.proofs.map.blocks_before.Goals as goal
 

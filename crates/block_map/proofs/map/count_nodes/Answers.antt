@@ -1,10 +1,4 @@
-use Rattle.std.proofs.Common.{◌≡◌, ◌++◌, ap, drop, length, subst, sym, take, ◌∙◌, arith}
-use Rattle.std.specs.Arc.{arc_value}
-use Rattle.std.specs.declared.sync.Arc.{Arc}
-use Rattle.std.specs.Global.{Global}
-use Rattle.std.proofs.lemmas.List.{map-append, take-append-drop}
-use Rattle.block_map.specs.Blocks.{AreBlocksFrom, block_trees}
-use Rattle.block_map.specs.declared.trees.Trees.{Trees}
+use Rattle.block_map.proofs.Common.{◌≡◌, ◌++◌, ap, drop, length, subst, sym, take, ◌∙◌, arith, arc_value, Arc, Global, map-append, take-append-drop, AreBlocksFrom, block_trees, Trees}
 use Rattle.block_map.proofs.BlocksOfMaps.{AreBlocksFrom-front, each-block, block_nodes-small}
 use Rattle.block_map.proofs.map.count_nodes.Goals as goal
 

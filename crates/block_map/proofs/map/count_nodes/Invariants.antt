@@ -1,5 +1,4 @@
-use Rattle.std.proofs.Common.{◌≡◌, take}
-use Rattle.block_map.specs.Blocks.{block_nodes, block_trees}
+use Rattle.block_map.proofs.Common.{◌≡◌, take, block_nodes, block_trees}
 use Rattle.block_map.proofs.map.count_nodes.Given as goal
 
 abbrev pub invariant-loop-block : goal.invariant-loop-block

@@ -1,7 +1,4 @@
-use Rattle.std.proofs.Common.{◌≡◌, ◌+◌, length, refl, arith}
-use Rattle.std.proofs.lemmas.Grind.{common_steps}
-use Rattle.std.proofs.lemmas.Option.{slice_get_read}
-use Rattle.block_map.specs.Trees.{end_of_trees}
+use Rattle.block_map.proofs.Common.{◌≡◌, ◌+◌, length, refl, arith, common_steps, slice_get_read, end_of_trees}
 use Rattle.block_map.proofs.map.extended.Goals as goal
 
 pub add-requires-clause-source : goal.add-requires-clause-source

@@ -1,6 +1,4 @@
-use Rattle.std.proofs.Common.{◌≡◌, ◌++◌, take}
-use Rattle.block_map.specs.Map.{records_at_ticks}
-use Rattle.block_map.specs.Trees.{AreMapTrees}
+use Rattle.block_map.proofs.Common.{◌≡◌, ◌++◌, take, records_at_ticks, AreMapTrees}
 use Rattle.block_map.proofs.map.extended.Given as goal
 
 abbrev pub invariant-loop-record : goal.invariant-loop-record

@@ -1,10 +1,4 @@
-use Rattle.std.proofs.Common.{◌≡◌, ap, sym, subst, ◌∙◌}
-use Rattle.std.proofs.lemmas.Result.{IfOk-weaker}
-use Rattle.svn_path.specs.Path.{same_name}
-use Rattle.block_map.specs.Blocks.{AreBlocksFrom, block_records, block_trees}
-use Rattle.block_map.specs.Look.{at, look, resolved}
-use Rattle.block_map.specs.LookThrough.{look_through}
-use Rattle.block_map.specs.Looked.{looked_view}
+use Rattle.block_map.proofs.Common.{◌≡◌, ap, sym, subst, ◌∙◌, IfOk-weaker, same_name, AreBlocksFrom, block_records, block_trees, at, look, resolved, look_through, looked_view}
 use Rattle.block_map.proofs.BlocksOfMaps.{AreBlocksFrom-front, end-front, look-before}
 use Rattle.block_map.proofs.LooksThrough.{look_from-within}
 use Rattle.block_map.proofs.map.look_in_blocks.Goals as goal

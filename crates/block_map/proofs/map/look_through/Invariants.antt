@@ -1,9 +1,4 @@
-use Rattle.std.proofs.Common.{◌≡◌, length}
-use Rattle.svn_path.specs.Path.{same_name}
-use Rattle.block_map.specs.Blocks.{AreBlocksFrom, block_records, block_trees}
-use Rattle.block_map.specs.Look.{resolved}
-use Rattle.block_map.specs.LookThrough.{IsFoundUpTo, look_through}
-use Rattle.block_map.specs.Looked.{looked_view}
+use Rattle.block_map.proofs.Common.{◌≡◌, length, same_name, AreBlocksFrom, block_records, block_trees, resolved, IsFoundUpTo, look_through, looked_view}
 use Rattle.block_map.proofs.BlocksOfMaps.{end_of_blocks}
 use Rattle.block_map.proofs.map.look_through.Given as goal
 

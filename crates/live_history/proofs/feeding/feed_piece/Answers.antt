@@ -1,10 +1,5 @@
-use Rattle.std.proofs.Common.{◌≡◌, ◌-◌, ◌≤◌, ◌++◌, length, take, refl, sym, ap, subst, ◌∙◌, arith, length-drop}
-use Rattle.std.proofs.lemmas.List.{length-take-le}
-use Rattle.std.proofs.lemmas.Result.{err_from_is_err_and}
+use Rattle.live_history.proofs.Common.{◌≡◌, ◌-◌, ◌≤◌, ◌++◌, length, take, refl, sym, ap, subst, ◌∙◌, arith, length-drop, length-take-le, err_from_is_err_and, IsFed, stream, AreTaken}
 use Rattle.svn_dump.specs.Decided.{IsDecidedError}
-use Rattle.live_history.specs.History.{IsFed}
-use Rattle.live_history.specs.ReadAhead.{stream}
-use Rattle.live_history.specs.Stream.{AreTaken}
 use Rattle.live_history.proofs.FedPieces.{AreTaken-front, IsFed-more, IsFed-none, IsFed-read, IsPieceEnd-cut, IsPieceEnd-decided, IsPieceEnd-unread}
 use Rattle.live_history.proofs.Waiting.{IsInPiece-taken}
 use Rattle.live_history.proofs.feeding.feed_piece.Goals as goal

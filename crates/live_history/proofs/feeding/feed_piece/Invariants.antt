@@ -1,7 +1,4 @@
-use Rattle.std.proofs.Common.{◌≡◌, ◌+◌, ◌-◌, ◌≤◌, length}
-use Rattle.svn_report.specs.ReportFrom.{most_bytes}
-use Rattle.live_history.specs.History.{IsFed}
-use Rattle.live_history.specs.ReadAhead.{room, stream}
+use Rattle.live_history.proofs.Common.{◌≡◌, ◌+◌, ◌-◌, ◌≤◌, length, most_bytes, IsFed, room, stream}
 use Rattle.live_history.proofs.feeding.feed_piece.Given as goal
 
 abbrev pub invariant-bytes : goal.invariant-bytes

@@ -1,9 +1,5 @@
-use Rattle.std.proofs.Common.{◌≡◌, ap, ◌∙◌}
-use Rattle.std.specs.List.{flat_map}
-use Rattle.std.proofs.lemmas.Result.{IfOk-weaker}
-use Rattle.svn_text.specs.Line.{line_text}
+use Rattle.live_history.proofs.Common.{◌≡◌, ap, ◌∙◌, flat_map, IfOk-weaker, line_text, replies}
 use Rattle.svn_report.specs.Answering.{lent_lines}
-use Rattle.live_history.specs.Replies.{replies}
 use Rattle.live_history.proofs.Queries.{flat_map-mapped}
 use Rattle.live_history.proofs.replies.reply_text.Goals as goal
 

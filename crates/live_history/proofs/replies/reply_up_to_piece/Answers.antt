@@ -1,7 +1,4 @@
-use Rattle.std.proofs.Common.{◌≡◌, ap, refl, subst, ◌∙◌, arith}
-use Rattle.std.proofs.lemmas.Result.{err_from_is_err_and}
-use Rattle.live_history.specs.ReadAhead.{stream}
-use Rattle.live_history.specs.Turns.{IfTurn, IsNext}
+use Rattle.live_history.proofs.Common.{◌≡◌, ap, refl, subst, ◌∙◌, arith, err_from_is_err_and, stream, IfTurn, IsNext}
 use Rattle.live_history.proofs.Ends.{IsOutputKept-sound}
 use Rattle.live_history.proofs.Queries.{AreAllReplied-then, AreRepliedTo-more, AreRepliedTo-none, AreRepliedTo-read, IsEndEarly-line, IsEndEarly-memory, IsEndEarly-then}
 use Rattle.live_history.proofs.Waiting.{IsRepliedUpTo-queries}

@@ -1,10 +1,4 @@
-use Rattle.std.proofs.Common.{◌≡◌, ◌≤◌}
-use Rattle.std.specs.Prelude.{IsFalse, IsTrue}
-use Rattle.svn_dump.specs.Dump.{history_in_bytes}
-use Rattle.live_history.specs.ReadAhead.{room, stream}
-use Rattle.live_history.specs.Replies.{AreRepliedTo}
-use Rattle.live_history.specs.Talk.{IsLawfulDump, TalkState}
-use Rattle.live_history.specs.TalkEnd.{most_answered}
+use Rattle.live_history.proofs.Common.{◌≡◌, ◌≤◌, IsFalse, IsTrue, history_in_bytes, room, stream, AreRepliedTo, IsLawfulDump, TalkState, most_answered}
 use Rattle.live_history.proofs.replies.reply_up_to_piece.Given as goal
 
 abbrev pub invariant-turns : goal.invariant-turns

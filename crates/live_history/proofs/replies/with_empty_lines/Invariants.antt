@@ -1,6 +1,4 @@
-use Rattle.std.proofs.Common.{◌≡◌, take}
-use Rattle.std.specs.List.{flat_map}
-use Rattle.svn_text.specs.Line.{line_text}
+use Rattle.live_history.proofs.Common.{◌≡◌, take, flat_map, line_text}
 use Rattle.live_history.proofs.replies.with_empty_lines.Given as goal
 
 abbrev pub invariant-loop-text : goal.invariant-loop-text

@@ -1,10 +1,4 @@
-use Rattle.std.proofs.Common.{◌<◌, refl, subst, arith}
-use Rattle.std.specs.Prelude.{IfSome}
-use Rattle.std.proofs.lemmas.Result.{err_from_is_err_and}
-use Rattle.svn_dump.specs.Dump.{history_in_bytes}
-use Rattle.live_history.specs.ReadAhead.{room, stream}
-use Rattle.live_history.specs.Replies.{IsUpToNext}
-use Rattle.live_history.specs.Talk.{ready_text}
+use Rattle.live_history.proofs.Common.{◌<◌, refl, subst, arith, IfSome, err_from_is_err_and, history_in_bytes, room, stream, IsUpToNext, ready_text}
 use Rattle.live_history.proofs.Ends.{IsOutputKept-sound}
 use Rattle.live_history.proofs.Ongoing.{IsAfterPiece-ready, IsEndEarly-piece, IsEndEarly-unsaid, IsOutputKept-unsaid}
 use Rattle.live_history.proofs.Waiting.{IsCaughtUp-of, IsPieceNext-queries}

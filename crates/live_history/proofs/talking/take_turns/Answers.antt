@@ -1,11 +1,4 @@
-use Rattle.std.proofs.Common.{◌≡◌, ◌≤◌, ◌+◌, None, Option, Some, refl, subst, ◌∙◌, arith}
-use Rattle.std.specs.Prelude.{IfNone, IfSome}
-use Rattle.std.proofs.lemmas.Result.{err_from_is_err_and}
-use Rattle.svn_dump.specs.Draft.{IsWholeHistory}
-use Rattle.live_history.specs.History.{IsHistoryOf}
-use Rattle.live_history.specs.ReadAhead.{room, stream}
-use Rattle.live_history.specs.Talk.{TalkState, after_turns}
-use Rattle.live_history.specs.Talking.{IsAfterPiece}
+use Rattle.live_history.proofs.Common.{◌≡◌, ◌≤◌, ◌+◌, None, Option, Some, refl, subst, ◌∙◌, arith, IfNone, IfSome, err_from_is_err_and, IsWholeHistory, IsHistoryOf, room, stream, TalkState, after_turns, IsAfterPiece}
 use Rattle.live_history.proofs.Ends.{AreAllReplied-more, IsEndEarly-more}
 use Rattle.live_history.proofs.Ongoing.{IsAfterPiece-more, IsAfterPiece-none}
 use Rattle.live_history.proofs.Waiting.{IsCaughtUp-piece}

@@ -1,11 +1,4 @@
-use Rattle.std.proofs.Common.{◌≡◌, ◌+◌, ◌^◌, ◌<◌, ◌≤◌}
-use Rattle.std.specs.Prelude.{IsFalse, IsTrue}
-use Rattle.svn_dump.specs.Draft.{IsWholeHistory}
-use Rattle.live_history.specs.History.{IsHistoryOf}
-use Rattle.live_history.specs.ReadAhead.{room, stream}
-use Rattle.live_history.specs.Talk.{TalkState}
-use Rattle.live_history.specs.TalkEnd.{most_answered}
-use Rattle.live_history.specs.Talking.{IsAfterPiece}
+use Rattle.live_history.proofs.Common.{◌≡◌, ◌+◌, ◌^◌, ◌<◌, ◌≤◌, IsFalse, IsTrue, IsWholeHistory, IsHistoryOf, room, stream, TalkState, most_answered, IsAfterPiece}
 use Rattle.live_history.proofs.talking.take_turns.Given as goal
 
 abbrev pub invariant-pieces : goal.invariant-pieces

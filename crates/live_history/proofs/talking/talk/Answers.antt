@@ -1,10 +1,4 @@
-use Rattle.std.proofs.Common.{Result, Ok, Err, refl, subst}
-use Rattle.std.specs.Prelude.{IfErr, OnOk}
-use Rattle.std.specs.Io.KnownBytes.{prepend_known}
-use Rattle.svn_dump.specs.Dump.{history_in_bytes}
-use Rattle.live_history.specs.History.{IsHistoryOf}
-use Rattle.live_history.specs.Talk.{start_of}
-use Rattle.live_history.specs.TalkEnd.{IsTalkError, IsWholeTalk}
+use Rattle.live_history.proofs.Common.{Result, Ok, Err, refl, subst, IfErr, OnOk, prepend_known, history_in_bytes, IsHistoryOf, start_of, IsTalkError, IsWholeTalk}
 use Rattle.live_history.proofs.Waiting.{Consumes-none, IsCaughtUp-ready}
 use Rattle.live_history.proofs.WholeTalks.{IsTalkError-said, IsTalkError-unsaid, IsWholeTalk-said}
 use Rattle.live_history.proofs.talking.talk.Goals as goal

@@ -1,4 +1,4 @@
-use Rattle.std.proofs.Common.{◌∷◌, [], ap, arith, length, length-append}
+use Rattle.live_history.proofs.Common.{◌∷◌, [], ap, arith, length, length-append}
 use Rattle.live_history.proofs.QueryLines.{AreQueries-more}
 use Rattle.live_history.proofs.turns.first_queries.Goals as goal
 

@@ -1,5 +1,4 @@
-use Rattle.std.proofs.Common.{◌≡◌, ◌≤◌, ◌-◌, length, map}
-use Rattle.live_history.specs.Turns.{AreQueries}
+use Rattle.live_history.proofs.Common.{◌≡◌, ◌≤◌, ◌-◌, length, map, AreQueries}
 use Rattle.live_history.proofs.turns.first_queries.Given as goal
 
 abbrev pub invariant-lines : goal.invariant-lines

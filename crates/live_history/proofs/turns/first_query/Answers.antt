@@ -1,6 +1,5 @@
-use Rattle.std.proofs.Common.{◌∷◌, [], sym, subst, ◌∙◌, append_assoc}
+use Rattle.live_history.proofs.Common.{◌∷◌, [], sym, subst, ◌∙◌, append_assoc, IsPieceLine}
 use Rattle.svn_text.proofs.Cuts.{CutsFirst-IsCutAt}
-use Rattle.live_history.specs.Turn.{IsPieceLine}
 use Rattle.live_history.proofs.ReadAheads.{first_line-one}
 use Rattle.live_history.proofs.turns.first_query.Goals as goal
 

@@ -1,9 +1,4 @@
-use Rattle.std.proofs.Common.{◌≡◌, ◌+◌, [], ap, sym, subst, ◌∙◌, take}
-use Rattle.std.specs.Prelude.{IfSome}
-use Rattle.svn_text.specs.Line.{line_text}
-use Rattle.live_history.specs.ReadAhead.{AreNear, HasLine, stream}
-use Rattle.live_history.specs.Stream.{AreTaken}
-use Rattle.live_history.specs.Turn.{IsPieceLine}
+use Rattle.live_history.proofs.Common.{◌≡◌, ◌+◌, [], ap, sym, subst, ◌∙◌, take, IfSome, line_text, AreNear, HasLine, stream, AreTaken, IsPieceLine}
 use Rattle.live_history.proofs.FedPieces.{AreTaken-front}
 use Rattle.live_history.proofs.ReadAheads.{HasLine-take, HasLine-taken, near-left}
 use Rattle.live_history.proofs.Streams.{AreTaken-more}

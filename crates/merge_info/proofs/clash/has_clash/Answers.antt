@@ -1,8 +1,4 @@
-use Rattle.std.proofs.Common.{sym, ap, ◌∙◌, rules}
-use Rattle.std.proofs.lemmas.List.Sorted.{All-permutation, IsNonDecreasingBy-from_sort_by_key}
-use Rattle.range_list.specs.Rangelist.{IsRun}
-use Rattle.range_list.specs.declared.run.Run.{Run}
-use Rattle.merge_info.specs.Line.{has_clash}
+use Rattle.merge_info.proofs.Common.{sym, ap, ◌∙◌, rules, All-permutation, IsNonDecreasingBy-from_sort_by_key, IsRun, Run, has_clash}
 use Rattle.merge_info.proofs.Clashes.{IsRisingByFirst-sorted, has_clash-permutation}
 use Rattle.merge_info.proofs.clash.has_clash.Goals as goal
 

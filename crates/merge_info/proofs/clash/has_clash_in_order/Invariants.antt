@@ -1,5 +1,4 @@
-use Rattle.std.proofs.Common.{◌≡◌, drop}
-use Rattle.merge_info.specs.Line.{has_clash}
+use Rattle.merge_info.proofs.Common.{◌≡◌, drop, has_clash}
 use Rattle.merge_info.proofs.Clashes.{scan}
 use Rattle.merge_info.proofs.clash.has_clash_in_order.Given as goal
 

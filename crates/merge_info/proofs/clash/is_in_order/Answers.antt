@@ -1,4 +1,4 @@
-use Rattle.std.proofs.Common.{rules}
+use Rattle.merge_info.proofs.Common.{rules}
 use Rattle.std.proofs.lemmas.Fn.{always_returns_same}
 use Rattle.merge_info.proofs.Clashes.{IsRisingByFirst-tested}
 use Rattle.merge_info.proofs.clash.is_in_order.Goals as goal

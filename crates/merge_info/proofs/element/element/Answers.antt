@@ -1,4 +1,4 @@
-use Rattle.std.proofs.Common.{◌∙◌, sym}
+use Rattle.merge_info.proofs.Common.{◌∙◌, sym}
 use Rattle.merge_info.proofs.Elements.{element_of-more, element_of-no_star, element_of-star}
 use Rattle.merge_info.proofs.element.element.Goals as goal
 

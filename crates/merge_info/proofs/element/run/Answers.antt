@@ -1,5 +1,4 @@
-use Rattle.std.proofs.Common.{ap, ◌∙◌, sym}
-use Rattle.std.specs.Prelude.{option_map}
+use Rattle.merge_info.proofs.Common.{ap, ◌∙◌, sym, option_map}
 use Rattle.merge_info.proofs.Elements.{run_at, run_of-single}
 use Rattle.merge_info.proofs.element.run.Goals as goal
 

@@ -1,4 +1,4 @@
-use Rattle.svn_text.proofs.Cuts.{CutsFirst-IsCutAt, slice_split-cut, slice_split-uncut}
+use Rattle.merge_info.proofs.Common.{CutsFirst-IsCutAt, slice_split-cut, slice_split-uncut}
 use Rattle.merge_info.proofs.field.first_field.Goals as goal
 
 pub returns-in-None : goal.returns-in-None

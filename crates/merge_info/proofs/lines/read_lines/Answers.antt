@@ -1,8 +1,5 @@
-use Rattle.std.proofs.Common.{◌≡◌, Err, ap, ◌∙◌}
-use Rattle.std.proofs.lemmas.List.{map_push}
+use Rattle.merge_info.proofs.Common.{◌≡◌, Err, ap, ◌∙◌, map_push, fields_left, line_view}
 use Rattle.std.proofs.lemmas.Result.{err_from_is_err_and}
-use Rattle.merge_info.specs.Field.{fields_left}
-use Rattle.merge_info.specs.Line.{line_view}
 use Rattle.merge_info.specs.declared.error.MergeError.TheVariants.{Malformed}
 use Rattle.merge_info.proofs.Collected.{AreCollected-all, AreCollected-missing, AreCollected-more}
 use Rattle.merge_info.proofs.LinesRead.{lines_of-none, lines_of-some}

@@ -1,7 +1,4 @@
-use Rattle.std.proofs.Common.{length, map}
-use Rattle.merge_info.specs.Field.{fields_left}
-use Rattle.merge_info.specs.Line.{IsLine, line_of, line_view}
-use Rattle.merge_info.specs.Value.{lines_of}
+use Rattle.merge_info.proofs.Common.{length, map, fields_left, IsLine, line_of, line_view, lines_of}
 use Rattle.merge_info.proofs.Collected.{AreCollected}
 use Rattle.merge_info.proofs.lines.read_lines.Given as goal
 

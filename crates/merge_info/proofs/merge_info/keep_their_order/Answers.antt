@@ -1,7 +1,5 @@
-use Rattle.std.proofs.Common.{rules}
+use Rattle.merge_info.proofs.Common.{rules, is_before_below, Entry}
 use Rattle.std.proofs.lemmas.Fn.{always_returns_same}
-use Rattle.merge_info.specs.Inherited.{is_before_below}
-use Rattle.merge_info.specs.declared.entry.Entry.{Entry}
 use Rattle.merge_info.proofs.PathOrder.{KeepTheirOrder-tested}
 use Rattle.merge_info.proofs.merge_info.keep_their_order.Goals as goal
 

@@ -1,9 +1,6 @@
-use Rattle.std.proofs.Common.{◌≡◌, ◌+◌, ◌∷◌, Some, drop, length, ap, sym, ◌∙◌, arith, rules, tests}
-use Rattle.std.specs.List.{slice_split}
+use Rattle.merge_info.proofs.Common.{◌≡◌, ◌+◌, ◌∷◌, Some, drop, length, ap, sym, ◌∙◌, arith, rules, tests, slice_split, drop_all, length_push, is_comma}
 use Rattle.std.proofs.lemmas.Iterator.Consumers.{YieldsList-at, YieldsList-end, YieldsList-turn}
 use Rattle.std.proofs.lemmas.Iterator.Splits.{YieldsList-from_slice_split}
-use Rattle.std.proofs.lemmas.List.{drop_all, length_push}
-use Rattle.merge_info.specs.Line.{is_comma}
 use Rattle.merge_info.proofs.Collected.{AreCollected-all, AreCollected-missing, AreCollected-more, AreCollected-none, drop-next}
 use Rattle.merge_info.proofs.Elements.{elements_of-none, elements_of-some}
 use Rattle.merge_info.proofs.rangelist.rangelist.Goals as goal

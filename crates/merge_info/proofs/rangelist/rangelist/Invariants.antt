@@ -1,8 +1,4 @@
-use Rattle.std.proofs.Common.{drop, length}
-use Rattle.std.specs.List.{slice_split}
-use Rattle.range_list.specs.Rangelist.{IsRun}
-use Rattle.merge_info.specs.Element.{element_of}
-use Rattle.merge_info.specs.Line.{elements_of, is_comma}
+use Rattle.merge_info.proofs.Common.{drop, length, slice_split, IsRun, element_of, elements_of, is_comma}
 use Rattle.merge_info.proofs.Collected.{AreCollected}
 use Rattle.merge_info.proofs.rangelist.rangelist.Given as goal
 

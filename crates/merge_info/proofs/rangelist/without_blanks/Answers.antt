@@ -1,4 +1,4 @@
-use Rattle.std.proofs.Common.{ap, drop, ◌∙◌, rules, tests}
+use Rattle.merge_info.proofs.Common.{ap, drop, ◌∙◌, rules, tests}
 use Rattle.std.proofs.lemmas.Iterator.{YieldsList-from_slice}
 use Rattle.std.proofs.lemmas.Iterator.Search.{position_from_yields_List}
 use Rattle.merge_info.proofs.Elements.{is_no_blank, prefix_len-found}

@@ -1,5 +1,4 @@
-use Rattle.std.proofs.Common.{◌≡◌, None, sym, subst}
-use Rattle.merge_info.specs.RunsByPath.{AddsLine}
+use Rattle.merge_info.proofs.Common.{◌≡◌, None, sym, subst, AddsLine}
 use Rattle.merge_info.proofs.RunsByPath.{AreRunsByPath-insert, AreRunsByPath-write, runs_found}
 use Rattle.merge_info.proofs.runs_by_path.add_line.Goals as goal
 

@@ -1,9 +1,6 @@
-use Rattle.std.proofs.Common.{map, sym, subst, arith}
+use Rattle.merge_info.proofs.Common.{map, sym, subst, arith, map_push, IsLine, line_view, AreRunsByPath}
 use Rattle.std.proofs.lemmas.Iterator.Adapters.{YieldsList-from_vec}
 use Rattle.std.proofs.lemmas.Iterator.Consumers.{YieldsList-turn}
-use Rattle.std.proofs.lemmas.List.{map_push}
-use Rattle.merge_info.specs.Line.{IsLine, line_view}
-use Rattle.merge_info.specs.RunsByPath.{AreRunsByPath}
 use Rattle.merge_info.proofs.Each.{All-from_map_at}
 use Rattle.merge_info.proofs.runs_by_path.runs_by_path.Goals as goal
 

@@ -1,6 +1,4 @@
-use Rattle.std.proofs.Common.{map}
-use Rattle.merge_info.specs.Line.{line_view}
-use Rattle.merge_info.specs.RunsByPath.{AreRunsByPath}
+use Rattle.merge_info.proofs.Common.{map, line_view, AreRunsByPath}
 use Rattle.merge_info.proofs.runs_by_path.runs_by_path.Given as goal
 
 abbrev pub invariant-loop-line : goal.invariant-loop-line

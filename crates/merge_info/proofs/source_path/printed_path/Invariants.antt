@@ -1,7 +1,4 @@
-use Rattle.std.proofs.Common.{◌≡◌, ◌++◌, filter, length}
-use Rattle.svn_text.specs.Bytes.{is_not_empty}
-use Rattle.svn_path.specs.Components.{parts_of, parts_text}
-use Rattle.merge_info.specs.Field.{fields_left}
+use Rattle.merge_info.proofs.Common.{◌≡◌, ◌++◌, filter, length, is_not_empty, parts_of, parts_text, fields_left}
 use Rattle.merge_info.proofs.source_path.printed_path.Given as goal
 
 abbrev pub invariant-loop-left : goal.invariant-loop-left

@@ -1,6 +1,4 @@
-use Rattle.std.proofs.Common.{◌≡◌, ℕ, false, List, [], ◌∷◌, drop, refl, arith}
-use Rattle.std.proofs.lemmas.Grind.{common_steps}
-use Rattle.merge_info.specs.Inherited.{stays_before}
+use Rattle.merge_info.proofs.Common.{◌≡◌, ℕ, false, List, [], ◌∷◌, drop, refl, arith, common_steps, stays_before}
 use Rattle.merge_info.proofs.source_path.stays_before.Goals as goal
 
 -- the next path does not go on

@@ -1,5 +1,4 @@
-use Rattle.std.proofs.Common.{◌≡◌, ◌≤◌, ◌-◌, length, drop}
-use Rattle.merge_info.specs.Inherited.{stays_before}
+use Rattle.merge_info.proofs.Common.{◌≡◌, ◌≤◌, ◌-◌, length, drop, stays_before}
 use Rattle.merge_info.proofs.source_path.stays_before.Given as goal
 
 abbrev pub invariant-loop-i : goal.invariant-loop-i

@@ -1,7 +1,5 @@
-use Rattle.std.proofs.Common.{map, arith}
-use Rattle.std.proofs.lemmas.Grind.{common_steps}
+use Rattle.merge_info.proofs.Common.{map, arith, common_steps, IsEntry, entry_view}
 use Rattle.svn_text.proofs.Appended.{BeginsWith-append, BeginsWith-trans}
-use Rattle.merge_info.specs.Value.{IsEntry, entry_view}
 use Rattle.merge_info.proofs.InheritedEntries.{inherited_entries-canonical, inherited_entries-next}
 use Rattle.merge_info.proofs.Each.{All-from_map_at}
 use Rattle.merge_info.proofs.text.append_inherited.Goals as goal

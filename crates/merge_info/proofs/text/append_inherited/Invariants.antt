@@ -1,6 +1,4 @@
-use Rattle.std.proofs.Common.{◌≡◌, ◌++◌, map, take}
-use Rattle.merge_info.specs.Text.{value_text}
-use Rattle.merge_info.specs.Value.{entry_view}
+use Rattle.merge_info.proofs.Common.{◌≡◌, ◌++◌, map, take, value_text, entry_view}
 use Rattle.merge_info.proofs.InheritedEntries.{inherited_entries}
 use Rattle.merge_info.proofs.text.append_inherited.Given as goal
 

@@ -1,5 +1,4 @@
-use Rattle.std.proofs.Common.{◌+◌, ◌-◌, length}
-use Rattle.path_index.specs.Numbers.{HaveSameNumbers}
+use Rattle.path_index.proofs.Common.{◌+◌, ◌-◌, length, HaveSameNumbers}
 use Rattle.path_index.proofs.numbers.extend_to.Given as goal
 
 abbrev pub invariant-loop-alloc : goal.invariant-loop-alloc

@@ -1,6 +1,4 @@
-use Rattle.std.proofs.Common.{rules, ◌≡◌, ltb, true, false}
-use Rattle.std.specs.List.Sorted.{IsPartitionPoint}
-use Rattle.std.proofs.lemmas.List.Sorted.{IsPartitionedBy-ltb, IsPartitionPoint-from_clause}
+use Rattle.path_index.proofs.Common.{rules, ◌≡◌, ltb, true, false, IsPartitionPoint, IsPartitionedBy-ltb, IsPartitionPoint-from_clause}
 use Rattle.path_index.proofs.ListsOfNodes.{IsFirstNotBelow-from_point}
 use Rattle.path_index.proofs.NumbersOfNodes.{IsNonDecreasing-rising}
 use Rattle.path_index.proofs.numbers.first_not_below.Goals as goal

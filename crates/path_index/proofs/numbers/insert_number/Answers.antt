@@ -1,6 +1,4 @@
-use Rattle.std.proofs.Common.{◌≢◌, ℕ, ◌<◌, length, get_or, ap, ◌∙◌, arith}
-use Rattle.std.proofs.lemmas.List.{get_or_default}
-use Rattle.path_index.specs.Numbers.{IsFirstNotBelow}
+use Rattle.path_index.proofs.Common.{◌≢◌, ℕ, ◌<◌, length, get_or, ap, ◌∙◌, arith, get_or_default, IsFirstNotBelow}
 use Rattle.path_index.proofs.ListsOfNodes.{IsRising-insert, IsWith-insert}
 use Rattle.path_index.proofs.numbers.insert_number.Goals as goal
 use Rattle.path_index.proofs.numbers.insert_number.Goals.{then-first-known-via-then-first-known, then-first-known-via-else-first-known+then-known-first}

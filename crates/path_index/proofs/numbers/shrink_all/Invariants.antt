@@ -1,4 +1,4 @@
-use Rattle.path_index.specs.Numbers.{HaveSameNumbers}
+use Rattle.path_index.proofs.Common.{HaveSameNumbers}
 use Rattle.path_index.proofs.numbers.shrink_all.Given as goal
 
 abbrev pub invariant-loop-list : goal.invariant-loop-list

@@ -1,8 +1,5 @@
-use Rattle.std.proofs.Common.{◌≡◌, ◌+◌, ◌^◌, ◌<◌, ◌++◌, ◌∷◌, [], All, map, sym, ap, subst, ◌∙◌, append_assoc}
+use Rattle.path_index.proofs.Common.{◌≡◌, ◌+◌, ◌^◌, ◌<◌, ◌++◌, ◌∷◌, [], All, map, sym, ap, subst, ◌∙◌, append_assoc, All-tail, moved_by, Copied}
 use Rattle.std.specs.Vec.Iter.{into_iter_items}
-use Rattle.std.proofs.lemmas.List.Elements.{All-tail}
-use Rattle.path_index.specs.Records.{moved_by}
-use Rattle.path_index.specs.declared.copied.Copied.{Copied}
 use Rattle.path_index.proofs.records.append_moved.Goals as goal
 
 pub loop-each-preserved : goal.loop-each-preserved

@@ -1,6 +1,5 @@
-use Rattle.std.proofs.Common.{◌≡◌, ◌+◌, ◌^◌, ◌<◌, ◌++◌, All, map}
+use Rattle.path_index.proofs.Common.{◌≡◌, ◌+◌, ◌^◌, ◌<◌, ◌++◌, All, map, moved_by}
 use Rattle.std.specs.Vec.Iter.{into_iter_items}
-use Rattle.path_index.specs.Records.{moved_by}
 use Rattle.path_index.proofs.records.append_moved.Given as goal
 
 abbrev pub invariant-loop-each : goal.invariant-loop-each

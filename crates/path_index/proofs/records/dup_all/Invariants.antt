@@ -1,4 +1,4 @@
-use Rattle.std.proofs.Common.{◌≡◌, take}
+use Rattle.path_index.proofs.Common.{◌≡◌, take}
 use Rattle.path_index.proofs.records.dup_all.Given as goal
 
 abbrev pub invariant-loop-each : goal.invariant-loop-each

@@ -1,5 +1,4 @@
-use Rattle.std.proofs.Common.{refl, sym}
-use Rattle.path_index.specs.declared.copied.Copied.{Copied}
+use Rattle.path_index.proofs.Common.{refl, sym, Copied}
 use Rattle.path_index.proofs.RecordEffects.{not_IsCopy}
 use Rattle.path_index.proofs.KeptRecords.{AreCopies_push, AreCopies-same}
 use Rattle.path_index.proofs.records.push_copy.Goals as goal

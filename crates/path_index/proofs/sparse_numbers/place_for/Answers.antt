@@ -1,6 +1,4 @@
-use Rattle.std.proofs.Common.{◌≡◌, ℕ, List, sym, ◌∙◌}
-use Rattle.std.proofs.lemmas.List.{get_or_default}
-use Rattle.path_index.specs.SparseNumbers.{place_of, LeadBack}
+use Rattle.path_index.proofs.Common.{◌≡◌, ℕ, List, sym, ◌∙◌, get_or_default, place_of, LeadBack}
 use Rattle.path_index.proofs.PlacesOfNodes.{IsPlaceOf-known, LeadBack-added}
 use Rattle.path_index.proofs.sparse_numbers.place_for.Goals as goal
 

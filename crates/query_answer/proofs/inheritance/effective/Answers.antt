@@ -1,7 +1,4 @@
-use Rattle.std.proofs.Common.{sym, ◌∙◌, option_map}
-use Rattle.std.proofs.lemmas.Result.{IfOk-weaker}
-use Rattle.svn_path.specs.Path.{components_of}
-use Rattle.query_answer.specs.Effective.{own_or_inherited}
+use Rattle.query_answer.proofs.Common.{sym, ◌∙◌, option_map, IfOk-weaker, components_of, own_or_inherited}
 use Rattle.query_answer.proofs.EffectiveValues.{effective_in-found, mergeinfo-found, nearest_text-found}
 use Rattle.query_answer.proofs.WorkersSeen.{OnOk-from}
 use Rattle.query_answer.proofs.inheritance.effective.Goals as goal

@@ -1,8 +1,4 @@
-use Rattle.std.proofs.Common.{◌≡◌, ◌++◌, drop, ap, sym, subst, ◌∙◌}
-use Rattle.std.proofs.lemmas.List.Elements.{All-drop}
-use Rattle.svn_path.proofs.Tables.{components_of-components}
-use Rattle.svn_path.specs.Components.{IsComponent, path_text}
-use Rattle.svn_path.specs.Path.{components_of}
+use Rattle.query_answer.proofs.Common.{◌≡◌, ◌++◌, drop, ap, sym, subst, ◌∙◌, All-drop, components_of-components, IsComponent, path_text, components_of}
 use Rattle.merge_info.proofs.PrintedPaths.{IsPrintedPath-path_text}
 use Rattle.merge_info.specs.Line.{IsPrintedPath}
 use Rattle.query_answer.proofs.inheritance.rest_below.Goals as goal

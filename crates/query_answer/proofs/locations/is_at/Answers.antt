@@ -1,8 +1,5 @@
-use Rattle.std.proofs.Common.{Some, ap, sym, ◌∙◌}
-use Rattle.path_index.specs.Segment.{same_location}
-use Rattle.svn_path.specs.Path.{same_name}
+use Rattle.query_answer.proofs.Common.{Some, ap, sym, ◌∙◌, same_location, same_name, lent_path}
 use Rattle.svn_path.proofs.Orders.{pointwise-same_path}
-use Rattle.query_answer.specs.Answer.{lent_path}
 use Rattle.query_answer.proofs.locations.is_at.Goals as goal
 
 pub returns-in-Some : goal.returns-in-Some

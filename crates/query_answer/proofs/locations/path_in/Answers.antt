@@ -1,5 +1,4 @@
-use Rattle.std.proofs.Common.{ℕ, ◌<◌, ◌≤◌, arith, get_or, length, ltb, sym, ap, subst, ◌∙◌, inl, inr, rules}
-use Rattle.std.proofs.lemmas.Bool.{cases_lt, ltb-false, ltb-true}
+use Rattle.query_answer.proofs.Common.{ℕ, ◌<◌, ◌≤◌, arith, get_or, length, ltb, sym, ap, subst, ◌∙◌, inl, inr, rules, cases_lt, ltb-false, ltb-true}
 use Rattle.std.proofs.lemmas.List.Sorted.{IsPartitionPoint-from_clause}
 use Rattle.std.specs.Option.{is_some}
 use Rattle.path_index.specs.declared.segment.Segment.{Segment}

@@ -1,7 +1,4 @@
-use Rattle.std.proofs.Common.{◌≡◌, [], Some, slice_get, refl, sym, ap, ◌∙◌}
-use Rattle.std.proofs.lemmas.Option.{get_or_from_slice_get}
-use Rattle.std.proofs.lemmas.Result.{IfOk-weaker}
-use Rattle.query_answer.specs.NearestValue.{text_found, value_said}
+use Rattle.query_answer.proofs.Common.{◌≡◌, [], Some, slice_get, refl, sym, ap, ◌∙◌, get_or_from_slice_get, IfOk-weaker, text_found, value_said}
 use Rattle.query_answer.proofs.WorkersSeen.{MayLearn-after}
 use Rattle.query_answer.proofs.nearest_value.nearest_value.Goals as goal
 

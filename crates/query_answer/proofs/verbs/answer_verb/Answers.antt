@@ -1,8 +1,5 @@
-use Rattle.std.proofs.Common.{refl}
-use Rattle.query_answer.specs.Peg.{peg_view}
-use Rattle.query_answer.specs.Repo.{trees_in_bytes}
+use Rattle.query_answer.proofs.Common.{refl, peg_view, trees_in_bytes, history_in_bytes}
 use Rattle.query_answer.specs.declared.status.Status.TheVariants as status
-use Rattle.svn_dump.specs.Dump.{history_in_bytes}
 use Rattle.query_answer.proofs.AnswerTexts.{IsAnswer-Refused, answer_of-bad, answer_of-locate, answer_of-segments, answer_of-log, answer_of-mergeinfo, answer_of-merged, answer_of-eligible}
 use Rattle.query_answer.proofs.WorkersSeen.{Reads-nothing, Reads-refused}
 use Rattle.query_answer.proofs.verbs.answer_verb.Goals as goal

@@ -1,7 +1,4 @@
-use Rattle.std.proofs.Common.{◌≡◌, ◌≤◌, []}
-use Rattle.crossbeam_deque.specs.Handles.{worker_capacity, worker_flavor, worker_index, worker_view}
-use Rattle.query_pool.specs.Serving.{most_workers}
-use Rattle.query_pool.specs.Stealing.{tally}
+use Rattle.query_pool.proofs.Common.{◌≡◌, ◌≤◌, [], worker_capacity, worker_flavor, worker_index, worker_view, most_workers, tally}
 use Rattle.query_pool.proofs.deque.deque_of_places.Given as goal
 
 abbrev pub invariant-loop-place : goal.invariant-loop-place

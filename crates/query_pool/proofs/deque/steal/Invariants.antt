@@ -1,5 +1,4 @@
-use Rattle.std.proofs.Common.{◌≡◌}
-use Rattle.crossbeam_deque.specs.Handles.{IsPassOf, stealer_deque, view}
+use Rattle.query_pool.proofs.Common.{◌≡◌, IsPassOf, stealer_deque, view}
 use Rattle.query_pool.proofs.deque.steal.Given as goal
 
 abbrev pub invariant-loop : goal.invariant-loop

@@ -1,4 +1,4 @@
-use Rattle.std.proofs.Common.{◌≡◌, None, replicate}
+use Rattle.query_pool.proofs.Common.{◌≡◌, None, replicate}
 use Rattle.query_pool.proofs.gathering.empty_slots.Given as goal
 
 abbrev pub invariant-loop : goal.invariant-loop

@@ -1,6 +1,4 @@
-use Rattle.std.proofs.Common.{ℕ, ◌∷◌, [], ◌++◌, IfErr, sym, subst, ap, ◌∙◌, append_assoc}
-use Rattle.std.proofs.lemmas.Result.{err_from_is_err_and}
-use Rattle.query_pool.specs.Slots.{IsAddError}
+use Rattle.query_pool.proofs.Common.{ℕ, ◌∷◌, [], ◌++◌, IfErr, sym, subst, ap, ◌∙◌, append_assoc, err_from_is_err_and, IsAddError}
 use Rattle.query_pool.proofs.Adding.{Adds-more, IsAddError-more}
 use Rattle.query_pool.proofs.gathering.fill.Goals as goal
 

@@ -1,5 +1,4 @@
-use Rattle.std.proofs.Common.{◌≡◌, ◌++◌}
-use Rattle.query_pool.specs.Slots.{Adds}
+use Rattle.query_pool.proofs.Common.{◌≡◌, ◌++◌, Adds}
 use Rattle.query_pool.proofs.gathering.fill.Given as goal
 
 abbrev pub invariant-loop-place : goal.invariant-loop-place

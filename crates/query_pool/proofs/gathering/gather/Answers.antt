@@ -1,9 +1,4 @@
-use Rattle.std.proofs.Common.{◌≡◌, IfErr, sym, subst, ◌∙◌}
-use Rattle.std.proofs.lemmas.Result.{err_from_is_err_and, IfErr-weaker, IfOk-weaker}
-use Rattle.query_pool.specs.Gathering.{IsGatherError, StandsAtItsPlace}
-use Rattle.query_pool.specs.Serving.{results_of}
-use Rattle.query_pool.specs.Slots.{IsUnwrapError}
-use Rattle.query_pool.specs.declared.error.GatherError.TheVariants.{Memory}
+use Rattle.query_pool.proofs.Common.{◌≡◌, IfErr, sym, subst, ◌∙◌, err_from_is_err_and, IfErr-weaker, IfOk-weaker, IsGatherError, StandsAtItsPlace, results_of, IsUnwrapError, Memory}
 use Rattle.query_pool.proofs.Gathered.{has_each_once-no_error}
 use Rattle.query_pool.proofs.Unwrapping.{HasEachOnce-unwrapped, IsGatherError-unwrap, StandsAtItsPlace-unwrapped}
 use Rattle.query_pool.proofs.gathering.gather.Goals as goal

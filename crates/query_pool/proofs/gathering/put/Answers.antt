@@ -1,6 +1,5 @@
-use Rattle.std.proofs.Common.{◌≡◌, true, false, Option, None, Some, refl, ap, ◌∙◌, arith}
+use Rattle.query_pool.proofs.Common.{◌≡◌, true, false, Option, None, Some, refl, ap, ◌∙◌, arith, slice_get_read}
 use Rattle.std.specs.Option.{is_some}
-use Rattle.std.proofs.lemmas.Option.{slice_get_read}
 use Rattle.query_pool.proofs.Adding.{Adds-put, IsAddError-double, IsAddError-stranger}
 use Rattle.query_pool.proofs.gathering.put.Goals as goal
 

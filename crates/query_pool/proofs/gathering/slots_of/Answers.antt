@@ -1,9 +1,4 @@
-use Rattle.std.proofs.Common.{◌∷◌, [], ◌++◌, None, IfErr, length, sym, subst, ap, ◌∙◌, append_assoc}
-use Rattle.std.proofs.lemmas.List.{flat_map_more, length-replicate}
-use Rattle.std.proofs.lemmas.Result.{err_from_is_err_and}
-use Rattle.query_pool.specs.Gathering.{IsGatherError}
-use Rattle.query_pool.specs.Serving.{results_of}
-use Rattle.query_pool.specs.Slots.{Holds}
+use Rattle.query_pool.proofs.Common.{◌∷◌, [], ◌++◌, None, IfErr, length, sym, subst, ap, ◌∙◌, append_assoc, flat_map_more, length-replicate, err_from_is_err_and, IsGatherError, results_of, Holds}
 use Rattle.query_pool.proofs.Adding.{Holds-none, results_of_cut}
 use Rattle.query_pool.proofs.gathering.slots_of.Goals as goal
 

@@ -1,6 +1,4 @@
-use Rattle.std.proofs.Common.{◌≡◌, ◌++◌, length}
-use Rattle.query_pool.specs.Serving.{results_of}
-use Rattle.query_pool.specs.Slots.{Holds}
+use Rattle.query_pool.proofs.Common.{◌≡◌, ◌++◌, length, results_of, Holds}
 use Rattle.query_pool.proofs.gathering.slots_of.Given as goal
 
 abbrev pub invariant-loop-part : goal.invariant-loop-part

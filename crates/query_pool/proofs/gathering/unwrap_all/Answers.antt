@@ -1,5 +1,4 @@
-use Rattle.std.proofs.Common.{None, Some, ◌∷◌, ◌++◌, length, sym, ap, ◌∙◌}
-use Rattle.std.proofs.lemmas.List.{length-map}
+use Rattle.query_pool.proofs.Common.{None, Some, ◌∷◌, ◌++◌, length, sym, ap, ◌∙◌, length-map}
 use Rattle.query_pool.proofs.Unwrapping.{IsFirstEmpty-after}
 use Rattle.query_pool.proofs.gathering.unwrap_all.Goals as goal
 

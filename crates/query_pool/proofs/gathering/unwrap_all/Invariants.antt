@@ -1,4 +1,4 @@
-use Rattle.std.proofs.Common.{◌≡◌, ◌++◌, Some, length, map}
+use Rattle.query_pool.proofs.Common.{◌≡◌, ◌++◌, Some, length, map}
 use Rattle.query_pool.proofs.gathering.unwrap_all.Given as goal
 
 abbrev pub invariant-loop-slot : goal.invariant-loop-slot

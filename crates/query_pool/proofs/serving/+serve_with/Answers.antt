@@ -1,9 +1,5 @@
-use Rattle.std.proofs.Common.{rules, ℕ, ◌-◌, ◌<◌, ◌∙◌, ap, sym, subst, arith}
-use Rattle.crossbeam_deque.specs.Handles.{view, worker_view}
-use Rattle.query_pool.specs.Calling.{Continues, IsReady, results_in}
-use Rattle.query_pool.specs.Stealing.{Records, Serves}
+use Rattle.query_pool.proofs.Common.{rules, ℕ, ◌-◌, ◌<◌, ◌∙◌, ap, sym, subst, arith, view, worker_view, Continues, IsReady, results_in, Records, Serves, Tally}
 use Rattle.query_pool.specs.declared.caller.Caller.{Caller}
-use Rattle.query_pool.specs.declared.deque.Tally.{Tally}
 use Rattle.query_pool.proofs.Recording.{Serves-joined}
 use Rattle.query_pool.proofs.serving.+serve_with.Goals as goal
 

@@ -1,4 +1,4 @@
-use Rattle.std.proofs.Common.{◌+◌, ◌*◌}
+use Rattle.query_pool.proofs.Common.{◌+◌, ◌*◌}
 use Rattle.query_pool.proofs.serving.+serve_with.Given as goal
 
 abbrev pub decreases-others : goal.decreases-others

@@ -1,9 +1,4 @@
-use Rattle.std.proofs.Common.{◌≡◌, ◌<◌, ◌∙◌, All, ap, subst}
-use Rattle.std.proofs.lemmas.Result.{IfOk-weaker}
-use Rattle.crossbeam_deque.specs.Handles.{worker_view}
-use Rattle.query_pool.specs.Serving.{HasEachOnce, most_workers, results_of}
-use Rattle.query_pool.specs.Calling.{HandsOver}
-use Rattle.query_pool.specs.declared.deque.Tally.{Tally}
+use Rattle.query_pool.proofs.Common.{◌≡◌, ◌<◌, ◌∙◌, All, ap, subst, IfOk-weaker, worker_view, HasEachOnce, most_workers, results_of, HandsOver, Tally}
 use Rattle.query_pool.proofs.Recording.{HasEachOnce-taken, given-taken}
 use Rattle.query_pool.proofs.serving.serve.Goals as goal
 

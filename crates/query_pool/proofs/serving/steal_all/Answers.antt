@@ -1,4 +1,4 @@
-use Rattle.crossbeam_deque.specs.Handles.{view}
+use Rattle.query_pool.proofs.Common.{view}
 use Rattle.query_pool.proofs.Recording.{Serves-steal}
 use Rattle.query_pool.proofs.serving.steal_all.Goals as goal
 

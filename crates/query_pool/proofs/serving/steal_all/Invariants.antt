@@ -1,5 +1,4 @@
-use Rattle.crossbeam_deque.specs.Handles.{IsPassOf, stealer_deque, view}
-use Rattle.query_pool.specs.Stealing.{Serves}
+use Rattle.query_pool.proofs.Common.{IsPassOf, stealer_deque, view, Serves}
 use Rattle.query_pool.proofs.serving.steal_all.Given as goal
 
 abbrev pub invariant-loop : goal.invariant-loop

@@ -1,6 +1,4 @@
-use Rattle.std.proofs.Common.{◌∙◌, arith}
-use Rattle.crossbeam_deque.specs.Handles.{worker_view}
-use Rattle.query_pool.specs.Serving.{results_of}
+use Rattle.query_pool.proofs.Common.{◌∙◌, arith, worker_view, results_of}
 use Rattle.query_pool.proofs.Recording.{Serves-one}
 use Rattle.query_pool.proofs.serving.take_all.Goals as goal
 

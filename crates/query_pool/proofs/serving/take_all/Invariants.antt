@@ -1,5 +1,4 @@
-use Rattle.std.proofs.Common.{◌≡◌}
-use Rattle.query_pool.specs.Calling.{Continues}
+use Rattle.query_pool.proofs.Common.{◌≡◌, Continues}
 use Rattle.query_pool.proofs.serving.take_all.Given as goal
 
 abbrev pub invariant-loop : goal.invariant-loop

@@ -1,5 +1,4 @@
-use Rattle.std.proofs.Common.{rules, ◌≡◌, []}
-use Rattle.std.proofs.lemmas.Result.{err_from_is_err_and}
+use Rattle.svn_dump.proofs.Common.{rules, ◌≡◌, [], err_from_is_err_and}
 use Rattle.svn_dump.specs.declared.error.DumpError.TheVariants as dump
 use Rattle.svn_dump.proofs.Feeds.{IsRefusal-decided, first_line-memory}
 use Rattle.svn_dump.proofs.FirstRefusals.{exactly, one_history}

@@ -1,6 +1,4 @@
-use Rattle.std.proofs.Common.{◌≡◌, ◌++◌, length, take, drop, arith, sym, ap, ◌∙◌}
-use Rattle.std.specs.List.{flat_map}
-use Rattle.svn_report.specs.Answering.{partial_text}
+use Rattle.svn_report.proofs.Common.{◌≡◌, ◌++◌, length, take, drop, arith, sym, ap, ◌∙◌, flat_map, partial_text}
 use Rattle.svn_report.proofs.Batches.{IsAnswered-more, IsAnswered-none}
 use Rattle.svn_report.proofs.answering.answer_batches.Goals as goal
 

@@ -1,6 +1,4 @@
-use Rattle.std.proofs.Common.{◌<◌, ◌≤◌, ◌-◌, length}
-use Rattle.svn_report.specs.Answering.{partial_text}
-use Rattle.svn_report.specs.Report.{most_queries}
+use Rattle.svn_report.proofs.Common.{◌<◌, ◌≤◌, ◌-◌, length, partial_text, most_queries}
 use Rattle.svn_report.proofs.Batches.{IsAnswered}
 use Rattle.svn_report.proofs.answering.answer_batches.Given as goal
 

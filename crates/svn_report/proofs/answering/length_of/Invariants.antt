@@ -1,5 +1,4 @@
-use Rattle.std.proofs.Common.{◌≤◌, length, take}
-use Rattle.std.specs.List.{flat_map}
+use Rattle.svn_report.proofs.Common.{◌≤◌, length, take, flat_map}
 use Rattle.svn_report.proofs.answering.length_of.Given as goal
 
 abbrev pub invariant-loop-text : goal.invariant-loop-text

@@ -1,5 +1,4 @@
-use Rattle.std.proofs.Common.{◌≡◌, ◌++◌, take}
-use Rattle.std.specs.List.{flat_map}
+use Rattle.svn_report.proofs.Common.{◌≡◌, ◌++◌, take, flat_map}
 use Rattle.svn_report.proofs.answering.with_texts.Given as goal
 
 abbrev pub invariant-loop-text : goal.invariant-loop-text

@@ -1,5 +1,4 @@
-use Rattle.std.proofs.Common.{◌≡◌, ◌+◌, length, ◌∙◌, arith}
-use Rattle.svn_report.specs.Blocks.{AreBorders}
+use Rattle.svn_report.proofs.Common.{◌≡◌, ◌+◌, length, ◌∙◌, arith, AreBorders}
 use Rattle.svn_report.proofs.BlockIndexes.{IsChain-blocks, joined-first, joined-records}
 use Rattle.svn_report.proofs.block_indexes.index_of.Goals as goal
 use Rattle.svn_report.proofs.block_indexes.index_of.Goals.{In_ok-indexes}

@@ -1,9 +1,6 @@
-use Rattle.std.proofs.Common.{rules, ◌≡◌, ◌+◌, ◌≤◌, All, length, arith}
+use Rattle.svn_report.proofs.Common.{rules, ◌≡◌, ◌+◌, ◌≤◌, All, length, arith, NodeRecord, ends_of, AreBorders, HasBlock}
 use Rattle.svn_dump.specs.Record.{most_components}
-use Rattle.svn_dump.specs.declared.record.NodeRecord.{NodeRecord}
-use Rattle.block_map.specs.Ends.{ends_of}
 use Rattle.block_map.proofs.Sources.{HaveSources-dump}
-use Rattle.svn_report.specs.Blocks.{AreBorders, HasBlock}
 use Rattle.svn_report.proofs.BlockMapsJoined.{AreMapsOfBlocks, IsChain-maps, IsMapOf-joined, few-nodes_of_joined}
 use Rattle.svn_report.proofs.block_maps.map_of.Goals as goal
 use Rattle.svn_report.proofs.block_maps.map_of.Goals.{In_ok-maps}

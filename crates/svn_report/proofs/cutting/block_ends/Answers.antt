@@ -1,5 +1,4 @@
-use Rattle.std.proofs.Common.{◌≡◌, ◌+◌, ◌-◌, min, length, ap, sym, subst, arith, rules}
-use Rattle.svn_report.specs.Cutting.{block_length}
+use Rattle.svn_report.proofs.Common.{◌≡◌, ◌+◌, ◌-◌, min, length, ap, sym, subst, arith, rules, block_length}
 use Rattle.svn_report.proofs.BlockEnds.{AreBorders-ends, AreEndsUpTo, AreEndsUpTo-more}
 use Rattle.svn_report.proofs.cutting.block_ends.Goals as goal
 

@@ -1,4 +1,4 @@
-use Rattle.std.proofs.Common.{◌-◌}
+use Rattle.svn_report.proofs.Common.{◌-◌}
 use Rattle.svn_report.proofs.BlockEnds.{AreEndsUpTo}
 use Rattle.svn_report.proofs.cutting.block_ends.Given as goal
 

@@ -1,5 +1,4 @@
-use Rattle.std.proofs.Common.{◌+◌, ◌<◌, arith}
-use Rattle.svn_report.specs.Cutting.{distance}
+use Rattle.svn_report.proofs.Common.{◌+◌, ◌<◌, arith, distance}
 use Rattle.svn_report.proofs.BlockEnds.{IsGroupEnd-further}
 use Rattle.svn_report.proofs.cutting.end_of_group.Goals as goal
 

@@ -1,4 +1,4 @@
-use Rattle.std.proofs.Common.{◌-◌}
+use Rattle.svn_report.proofs.Common.{◌-◌}
 use Rattle.svn_report.proofs.BlockEnds.{IsGroupEndUpTo}
 use Rattle.svn_report.proofs.cutting.end_of_group.Given as goal
 

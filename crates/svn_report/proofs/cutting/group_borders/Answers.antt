@@ -1,4 +1,4 @@
-use Rattle.std.proofs.Common.{arith}
+use Rattle.svn_report.proofs.Common.{arith}
 use Rattle.svn_report.proofs.BlockEnds.{AreGroupBorders-all, AreGroupBordersUpTo-more}
 use Rattle.svn_report.proofs.cutting.group_borders.Goals as goal
 

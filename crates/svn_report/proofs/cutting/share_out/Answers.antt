@@ -1,4 +1,4 @@
-use Rattle.std.proofs.lemmas.Result.{IfOk-weaker}
+use Rattle.svn_report.proofs.Common.{IfOk-weaker}
 use Rattle.svn_report.proofs.BlockEnds.{AreBorders-groups}
 use Rattle.svn_report.proofs.cutting.share_out.Goals as goal
 

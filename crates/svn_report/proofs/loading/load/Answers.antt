@@ -1,4 +1,4 @@
-use Rattle.std.proofs.Common.{arith, inr}
+use Rattle.svn_report.proofs.Common.{arith, inr}
 use Rattle.svn_report.proofs.loading.load.Goals as goal
 
 pub returns-clause-unread : goal.returns-clause-unread

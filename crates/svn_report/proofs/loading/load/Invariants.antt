@@ -1,4 +1,4 @@
-use Rattle.std.proofs.Common.{◌≡◌, ◌+◌, ◌<◌, vec_len}
+use Rattle.svn_report.proofs.Common.{◌≡◌, ◌+◌, ◌<◌, vec_len}
 use Rattle.std.specs.Io.KnownBytes.{Consumes}
 use Rattle.svn_report.proofs.loading.load.Given as goal
 

@@ -1,5 +1,4 @@
-use Rattle.std.proofs.Common.{rules}
-use Rattle.std.proofs.lemmas.Result.{err_from_is_err_and}
+use Rattle.svn_report.proofs.Common.{rules, err_from_is_err_and}
 use Rattle.svn_report.proofs.Fronts.{Consumes-piece, IsDumpErrorFrom-piece, IsFrontRead-more}
 use Rattle.svn_report.proofs.pieces.feed_from.Goals as goal
 

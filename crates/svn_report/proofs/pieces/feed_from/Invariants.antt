@@ -1,4 +1,4 @@
-use Rattle.std.proofs.Common.{◌≡◌, ◌+◌, ◌*◌, ◌≤◌, None, vec_len}
+use Rattle.svn_report.proofs.Common.{◌≡◌, ◌+◌, ◌*◌, ◌≤◌, None, vec_len}
 use Rattle.svn_report.specs.ReportFrom.{most_bytes}
 use Rattle.svn_report.proofs.Fronts.{IsFrontRead}
 use Rattle.svn_report.proofs.pieces.feed_from.Given as goal

@@ -1,4 +1,4 @@
-use Rattle.std.proofs.lemmas.Result.{err_from_is_err_and}
+use Rattle.svn_report.proofs.Common.{err_from_is_err_and}
 use Rattle.svn_report.proofs.Fronts.{IsDumpErrorFrom-end}
 use Rattle.svn_report.proofs.pieces.read_dump.Goals as goal
 

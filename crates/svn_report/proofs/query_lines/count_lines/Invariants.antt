@@ -1,5 +1,4 @@
-use Rattle.std.proofs.Common.{◌≡◌, ◌+◌, ◌≤◌, length}
-use Rattle.svn_report.specs.QueryLines.{query_lines}
+use Rattle.svn_report.proofs.Common.{◌≡◌, ◌+◌, ◌≤◌, length, query_lines}
 use Rattle.svn_report.proofs.query_lines.count_lines.Given as goal
 
 abbrev pub invariant-lines : goal.invariant-lines

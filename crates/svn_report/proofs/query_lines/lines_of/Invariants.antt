@@ -1,6 +1,4 @@
-use Rattle.std.proofs.Common.{◌≡◌, ◌++◌, length}
-use Rattle.svn_report.specs.Answering.{lent_lines}
-use Rattle.svn_report.specs.QueryLines.{query_lines}
+use Rattle.svn_report.proofs.Common.{◌≡◌, ◌++◌, length, lent_lines, query_lines}
 use Rattle.svn_report.proofs.query_lines.lines_of.Given as goal
 
 abbrev pub invariant-lines : goal.invariant-lines

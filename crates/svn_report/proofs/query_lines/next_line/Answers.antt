@@ -1,4 +1,4 @@
-use Rattle.std.proofs.Common.{sym, ◌∙◌}
+use Rattle.svn_report.proofs.Common.{sym, ◌∙◌}
 use Rattle.svn_text.proofs.Cuts.{CutsFirst-IsCutAt}
 use Rattle.svn_report.proofs.QueryLines.{query_lines-cut, query_lines-uncut}
 use Rattle.svn_report.proofs.query_lines.next_line.Goals as goal

@@ -1,7 +1,5 @@
-use Rattle.std.proofs.Common.{ap, map, sym, subst, ◌∙◌}
-use Rattle.par_scan.specs.Chain.{IsChain}
+use Rattle.svn_report.proofs.Common.{ap, map, sym, subst, ◌∙◌, IsChain, sum_of}
 use Rattle.par_scan.specs.Sum.{no_border, sum_weight}
-use Rattle.svn_report.specs.RecordEnds.{sum_of}
 use Rattle.svn_report.proofs.RecordEnds.{AreRecordEnds-scan, IsChain-counts}
 use Rattle.svn_report.proofs.record_borders.record_ends.Goals as goal
 

@@ -1,7 +1,4 @@
-use Rattle.std.proofs.Common.{ap, ◌∙◌}
-use Rattle.std.proofs.lemmas.Result.{IfOk-weaker, IfErr-weaker, err_from_is_err_and}
-use Rattle.svn_dump.specs.Dump.{history_in_bytes}
-use Rattle.svn_report.specs.Report.{answers}
+use Rattle.svn_report.proofs.Common.{ap, ◌∙◌, IfOk-weaker, IfErr-weaker, err_from_is_err_and, history_in_bytes, answers}
 use Rattle.svn_report.proofs.Reports.{IsHistoryError-load}
 use Rattle.svn_report.proofs.reporting.report_on.Goals as goal
 

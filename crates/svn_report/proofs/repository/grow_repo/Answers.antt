@@ -1,5 +1,4 @@
-use Rattle.std.proofs.Common.{◌∙◌}
-use Rattle.query_answer.proofs.InBytes.{first_fault-in_bytes}
+use Rattle.svn_report.proofs.Common.{◌∙◌, first_fault-in_bytes}
 use Rattle.svn_report.proofs.repository.grow_repo.Goals as goal
 
 pub returns-clause-lawful : goal.returns-clause-lawful

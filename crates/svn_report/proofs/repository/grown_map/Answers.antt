@@ -1,4 +1,4 @@
-use Rattle.std.proofs.Common.{refl}
+use Rattle.svn_report.proofs.Common.{refl}
 use Rattle.svn_report.proofs.GrownRepos.{HaveSources-grown, IsMapOf-grown, checked-grown}
 use Rattle.svn_report.proofs.repository.grown_map.Goals as goal
 

@@ -1,4 +1,4 @@
-use Rattle.std.proofs.Common.{refl, ap, ◌∙◌}
+use Rattle.svn_report.proofs.Common.{refl, ap, ◌∙◌}
 use Rattle.svn_report.proofs.GrownRepos.{records-grown}
 use Rattle.svn_report.proofs.RecordEnds.{ends_view-small, ends_view-sums}
 use Rattle.svn_report.proofs.repository.grown_parts.Goals as goal

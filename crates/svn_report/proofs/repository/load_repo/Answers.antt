@@ -1,5 +1,4 @@
-use Rattle.std.proofs.Common.{◌∙◌}
-use Rattle.query_answer.proofs.InBytes.{first_fault-in_bytes}
+use Rattle.svn_report.proofs.Common.{◌∙◌, first_fault-in_bytes}
 use Rattle.svn_report.proofs.RecordEnds.{ends_view-small, ends_view-sums}
 use Rattle.svn_report.proofs.repository.load_repo.Goals as goal
 

@@ -1,4 +1,4 @@
-use Rattle.std.proofs.Common.{option_map, sym, ap, ◌∙◌}
+use Rattle.svn_report.proofs.Common.{option_map, sym, ap, ◌∙◌}
 use Rattle.block_map.specs.FaultKind.{fault_view}
 use Rattle.svn_report.proofs.LoadErrors.{IsLoadError-fault}
 use Rattle.svn_report.proofs.repository.refuse_fault.Goals as goal

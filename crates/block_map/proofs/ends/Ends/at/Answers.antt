@@ -1,7 +1,5 @@
-use Rattle.std.proofs.Common.{◌≡◌, ◌^◌, ◌<◌, ℕ, List, length, get_or, sym, ap, ◌∙◌, arith}
-use Rattle.std.proofs.lemmas.List.{get_or-map, length-map}
+use Rattle.block_map.proofs.Common.{◌≡◌, ◌^◌, ◌<◌, ℕ, List, length, get_or, sym, ap, ◌∙◌, arith, get_or-map, length-map, ends_view}
 use Rattle.par_scan.specs.declared.sum.Sum.{Sum}
-use Rattle.block_map.specs.Ends.{ends_view}
 use Rattle.block_map.proofs.ends.Ends.at.Goals as goal
 
 -- the end of the revision is the number of its index

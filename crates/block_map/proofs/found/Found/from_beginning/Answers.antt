@@ -1,8 +1,4 @@
-use Rattle.std.proofs.Common.{◌≡◌, ℕ, List, [], ◌∷◌, None, refl, sym, ap, ◌∙◌}
-use Rattle.svn_path.specs.declared.names.NameId.{NameId}
-use Rattle.svn_dump.specs.declared.record.ValueId.{ValueId}
-use Rattle.block_map.specs.Look.{at, at_with, from_beginning}
-use Rattle.block_map.specs.Map.{found_view}
+use Rattle.block_map.proofs.Common.{◌≡◌, ℕ, List, [], ◌∷◌, None, refl, sym, ap, ◌∙◌, NameId, ValueId, at, at_with, from_beginning, found_view}
 use Rattle.block_map.proofs.found.Found.from_beginning.Goals as goal
 
 -- no mergeinfo is that of the root before the first record

@@ -1,8 +1,4 @@
-use Rattle.std.proofs.Common.{◌≡◌, ◌+◌, ◌++◌, sym, ap, subst, ◌∙◌}
-use Rattle.std.proofs.lemmas.List.Sums.{sum_by-append}
-use Rattle.block_map.specs.Blocks.{AreBlocksFrom, block_nodes, block_records, block_trees}
-use Rattle.block_map.specs.Map.{hi_of}
-use Rattle.block_map.specs.declared.trees.Trees.{Trees}
+use Rattle.block_map.proofs.Common.{◌≡◌, ◌+◌, ◌++◌, sym, ap, subst, ◌∙◌, sum_by-append, AreBlocksFrom, block_nodes, block_records, block_trees, hi_of, Trees}
 use Rattle.block_map.proofs.BlocksOfMaps.{AreBlocksFrom-append, end_of_blocks, block_records-append}
 use Rattle.block_map.proofs.JoinedMaps.{IsJoined-maps}
 use Rattle.block_map.proofs.joining.MapActs.join.Goals as goal

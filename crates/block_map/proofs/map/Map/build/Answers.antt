@@ -1,5 +1,4 @@
-use Rattle.std.proofs.Common.{◌∙◌}
-use Rattle.block_map.specs.Map.{IsMapOfFirstRecords}
+use Rattle.block_map.proofs.Common.{◌∙◌, IsMapOfFirstRecords}
 use Rattle.block_map.proofs.MapsOfDumps.{IsMapOfFirstRecords-built}
 use Rattle.block_map.proofs.Results.{IfOk-both}
 use Rattle.block_map.proofs.map.Map.build.Goals as goal

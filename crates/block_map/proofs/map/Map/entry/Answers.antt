@@ -1,8 +1,4 @@
-use Rattle.std.proofs.Common.{◌≡◌, option_map, ap, ◌∙◌}
-use Rattle.std.proofs.lemmas.Result.{IfOk-weaker}
-use Rattle.svn_path.specs.Path.{same_name}
-use Rattle.block_map.specs.Map.{look_in, revision_in, state_in}
-use Rattle.block_map.specs.Standing.{entry_view, standing_at, standing_of}
+use Rattle.block_map.proofs.Common.{◌≡◌, option_map, ap, ◌∙◌, IfOk-weaker, same_name, look_in, revision_in, state_in, entry_view, standing_at, standing_of}
 use Rattle.block_map.proofs.MapsOfDumps.{standing-at_end}
 use Rattle.block_map.proofs.Standings.{standing-look}
 use Rattle.block_map.proofs.map.Map.entry.Goals as goal

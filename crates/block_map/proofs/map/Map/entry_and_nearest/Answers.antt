@@ -1,8 +1,4 @@
-use Rattle.std.proofs.Common.{subst}
-use Rattle.std.proofs.lemmas.Result.{IfOk-weaker}
-use Rattle.svn_path.specs.Path.{same_name}
-use Rattle.block_map.specs.Map.{AreEntryAndNearest, look_in, revision_in}
-use Rattle.block_map.specs.Standing.{standing_at, standing_of}
+use Rattle.block_map.proofs.Common.{subst, IfOk-weaker, same_name, AreEntryAndNearest, look_in, revision_in, standing_at, standing_of}
 use Rattle.block_map.proofs.MapsOfDumps.{standing-at_end}
 use Rattle.block_map.proofs.map.Map.entry_and_nearest.Goals as goal
 

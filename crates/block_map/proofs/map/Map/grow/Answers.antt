@@ -1,7 +1,4 @@
-use Rattle.std.proofs.Common.{◌≡◌, ◌∙◌, arith, append_assoc}
-use Rattle.std.proofs.lemmas.Grind.{common_steps}
-use Rattle.block_map.specs.Map.{IsMapOfFirstRecords, hi_of}
-use Rattle.block_map.specs.Trees.{end_of_trees}
+use Rattle.block_map.proofs.Common.{◌≡◌, ◌∙◌, arith, append_assoc, common_steps, IsMapOfFirstRecords, hi_of, end_of_trees}
 use Rattle.block_map.proofs.MapsOfDumps.{IsMapOfFirstRecords-grown}
 use Rattle.block_map.proofs.Results.{IfOk-both}
 use Rattle.block_map.proofs.map.Map.grow.Goals as goal

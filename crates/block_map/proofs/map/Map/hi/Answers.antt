@@ -1,6 +1,4 @@
-use Rattle.std.proofs.Common.{[], ◌∷◌, sym, ap, subst, ◌∙◌}
-use Rattle.block_map.specs.Blocks.{AreBlocksFrom, block_trees}
-use Rattle.block_map.specs.Map.{hi_of}
+use Rattle.block_map.proofs.Common.{[], ◌∷◌, sym, ap, subst, ◌∙◌, AreBlocksFrom, block_trees, hi_of}
 use Rattle.block_map.proofs.BlocksOfMaps.{AreBlocksFrom-back, end_of_blocks, last-end, trees-last}
 use Rattle.block_map.proofs.map.Map.hi.Goals as goal
 

@@ -1,8 +1,4 @@
-use Rattle.std.proofs.Common.{◌≡◌, sym, subst}
-use Rattle.std.proofs.lemmas.Result.{IfOk-weaker}
-use Rattle.svn_path.specs.Path.{same_name}
-use Rattle.block_map.specs.Look.{IsFoundAtOrBefore}
-use Rattle.block_map.specs.Map.{found_view, look_in}
+use Rattle.block_map.proofs.Common.{◌≡◌, sym, subst, IfOk-weaker, same_name, IsFoundAtOrBefore, found_view, look_in}
 use Rattle.block_map.proofs.FoundFrom.{IsFoundAtOrBefore-look}
 use Rattle.block_map.proofs.map.Map.look.Goals as goal
 

@@ -1,7 +1,4 @@
-use Rattle.std.proofs.Common.{ap, subst}
-use Rattle.std.specs.Option.{option_and_then}
-use Rattle.block_map.specs.Map.{IsNearestOrNone, look_in}
-use Rattle.block_map.specs.Standing.{mergeinfo_of}
+use Rattle.block_map.proofs.Common.{ap, subst, option_and_then, IsNearestOrNone, look_in, mergeinfo_of}
 use Rattle.block_map.proofs.MapsOfDumps.{standing-at_end}
 use Rattle.block_map.proofs.map.Map.nearest.Goals as goal
 

@@ -1,5 +1,4 @@
-use Rattle.std.proofs.Common.{◌≡◌, Option, None, Some, refl, sym, ◌∙◌}
-use Rattle.block_map.specs.Map.{look_in}
+use Rattle.block_map.proofs.Common.{◌≡◌, Option, None, Some, refl, sym, ◌∙◌, look_in}
 use Rattle.block_map.proofs.NearestFound.{HasNoneBelow-parent, HasNoneBelow-path, IsNearestOrNone-there}
 use Rattle.block_map.proofs.map.Map.nearest_above.Goals as goal
 

@@ -1,6 +1,5 @@
-use Rattle.std.proofs.Common.{length}
+use Rattle.block_map.proofs.Common.{length, look_in}
 use Rattle.block_map.proofs.NearestFound.{HasNoneBelow}
-use Rattle.block_map.specs.Map.{look_in}
 use Rattle.block_map.proofs.map.Map.nearest_above.Given as goal
 
 abbrev pub invariant-loop-mi : goal.invariant-loop-mi

@@ -1,6 +1,4 @@
-use Rattle.std.proofs.Common.{length, sym, ap, subst, arith}
-use Rattle.block_map.specs.Blocks.{AreBlocksFrom, block_nodes, block_trees}
-use Rattle.block_map.specs.Map.{nodes_for}
+use Rattle.block_map.proofs.Common.{length, sym, ap, subst, arith, AreBlocksFrom, block_nodes, block_trees, nodes_for}
 use Rattle.block_map.proofs.BlocksOfMaps.{block_nodes-few, block_nodes-records}
 use Rattle.block_map.proofs.map.Map.nodes.Goals as goal
 

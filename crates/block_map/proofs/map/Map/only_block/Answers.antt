@@ -1,12 +1,4 @@
-use Rattle.std.proofs.Common.{◌≡◌, ◌≤◌, ◌<◌, List, [], ◌∷◌, get_or, length, refl, sym, ap, subst, ◌∙◌, arith}
-use Rattle.std.specs.Arc.{arc_value}
-use Rattle.std.specs.declared.sync.Arc.{Arc}
-use Rattle.std.specs.Global.{Global}
-use Rattle.svn_path.specs.Path.{same_name}
-use Rattle.block_map.specs.Blocks.{AreBlocksBefore, AreBlocksFrom, block_records, block_trees}
-use Rattle.block_map.specs.Look.{look, resolved}
-use Rattle.block_map.specs.Map.{hi_of, look_in}
-use Rattle.block_map.specs.declared.trees.Trees.{Trees}
+use Rattle.block_map.proofs.Common.{◌≡◌, ◌≤◌, ◌<◌, List, [], ◌∷◌, get_or, length, refl, sym, ap, subst, ◌∙◌, arith, arc_value, Arc, Global, same_name, AreBlocksBefore, AreBlocksFrom, block_records, block_trees, look, resolved, hi_of, look_in, Trees}
 use Rattle.block_map.proofs.BlocksOfMaps.{end_of_blocks, look-only}
 use Rattle.block_map.proofs.map.Map.only_block.Goals as goal
 

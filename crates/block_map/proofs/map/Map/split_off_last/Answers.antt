@@ -1,5 +1,4 @@
-use Rattle.std.proofs.Common.{◌++◌, [], ◌∷◌}
-use Rattle.block_map.specs.Blocks.{AreBlocksFrom, block_trees}
+use Rattle.block_map.proofs.Common.{◌++◌, [], ◌∷◌, AreBlocksFrom, block_trees}
 use Rattle.block_map.proofs.BlocksOfMaps.{AreBlocksFrom-back, AreBlocksFrom-front, last-start, trees-last}
 use Rattle.block_map.proofs.map.Map.split_off_last.Goals as goal
 use Rattle.block_map.proofs.map.Map.split_off_last.Goals.{In-Ok}

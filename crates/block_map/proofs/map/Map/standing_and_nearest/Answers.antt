@@ -1,6 +1,4 @@
-use Rattle.std.proofs.Common.{subst}
-use Rattle.block_map.specs.Map.{AreEntryAndNearest}
-use Rattle.block_map.specs.Standing.{standing_of}
+use Rattle.block_map.proofs.Common.{subst, AreEntryAndNearest, standing_of}
 use Rattle.block_map.proofs.map.Map.standing_and_nearest.Goals as goal
 
 pub returns-in-Some : goal.returns-in-Some

@@ -1,9 +1,5 @@
-use Rattle.std.proofs.Common.{◌<◌, [], ◌∷◌, length, ap, sym, ◌∙◌, arith}
+use Rattle.block_map.proofs.Common.{◌<◌, [], ◌∷◌, length, ap, sym, ◌∙◌, arith, map-append, arc_value, block_trees, hi_of}
 use Rattle.std.proofs.lemmas.Bool.Decides.{nat_tests}
-use Rattle.std.proofs.lemmas.List.{map-append}
-use Rattle.std.specs.Arc.{arc_value}
-use Rattle.block_map.specs.Blocks.{block_trees}
-use Rattle.block_map.specs.Map.{hi_of}
 use Rattle.block_map.proofs.BlocksOfMaps.{AreBlocksFrom-append}
 use Rattle.block_map.proofs.map.Map.with_block.Goals as goal
 

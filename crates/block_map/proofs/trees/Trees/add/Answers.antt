@@ -1,7 +1,4 @@
-use Rattle.std.proofs.Common.{◌∷◌, ◌++◌, [], refl, ap, ◌∙◌, arith}
-use Rattle.svn_dump.specs.Dump.{record_view}
-use Rattle.block_map.specs.Ends.{record_at_tick}
-use Rattle.block_map.specs.declared.trees.Trees.{Trees}
+use Rattle.block_map.proofs.Common.{◌∷◌, ◌++◌, [], refl, ap, ◌∙◌, arith, record_view, record_at_tick, Trees}
 use Rattle.block_map.proofs.TreesLooks.{AreTrees-push, AreTrees-same, end_of_trees-same}
 use Rattle.block_map.proofs.GrownTries.{ExtendsTrie-none}
 use Rattle.block_map.proofs.trees.Trees.add.Goals as goal

@@ -1,9 +1,4 @@
-use Rattle.std.proofs.Common.{rules, ◌≡◌, sym, subst}
-use Rattle.std.proofs.lemmas.Result.{IfOk-weaker}
-use Rattle.svn_path.specs.Path.{same_name}
-use Rattle.block_map.specs.LookThrough.{IsFoundUpTo}
-use Rattle.block_map.specs.Looked.{looked_view}
-use Rattle.block_map.specs.Trees.{look_in_trees}
+use Rattle.block_map.proofs.Common.{rules, ◌≡◌, sym, subst, IfOk-weaker, same_name, IsFoundUpTo, looked_view, look_in_trees}
 use Rattle.block_map.proofs.FoundFrom.{IsFoundAtOrBefore-look, IsFoundUpTo-earlier}
 use Rattle.block_map.proofs.trees.Trees.look.Goals as goal
 

@@ -1,9 +1,4 @@
-use Rattle.std.proofs.Common.{◌≤◌, ap, subst, sym, ◌∙◌}
-use Rattle.block_map.specs.Look.{resolved}
-use Rattle.block_map.specs.LookThrough.{IsFoundUpTo}
-use Rattle.block_map.specs.Looked.{looked_view}
-use Rattle.block_map.specs.Map.{found_view}
-use Rattle.block_map.specs.Trees.{end_of_trees, look_in_trees, look_through_trees}
+use Rattle.block_map.proofs.Common.{◌≤◌, ap, subst, sym, ◌∙◌, resolved, IsFoundUpTo, looked_view, found_view, end_of_trees, look_in_trees, look_through_trees}
 use Rattle.block_map.proofs.BlocksOfMaps.{with_mergeinfo-through}
 use Rattle.block_map.proofs.trees.Trees.look_through_found.Goals as goal
 

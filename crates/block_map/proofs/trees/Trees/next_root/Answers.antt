@@ -1,11 +1,4 @@
-use Rattle.std.proofs.Common.{List, Some, None, subst, sym}
-use Rattle.svn_path.specs.declared.names.NameId.{NameId}
-use Rattle.svn_dump.specs.Dump.{record_view}
-use Rattle.block_map.specs.Trees.{AreTrees, IsNodeAfter, SameTrees, ShowsTick, action_in, end_of_trees}
-use Rattle.block_map.specs.Ends.{record_at_tick}
-use Rattle.block_map.specs.Trie.{IsNodeOf, PutsNode}
-use Rattle.block_map.specs.declared.trees.Trees.{Trees}
-use Rattle.block_map.specs.declared.trie.node.Node.{Node}
+use Rattle.block_map.proofs.Common.{List, Some, None, subst, sym, NameId, record_view, AreTrees, IsNodeAfter, SameTrees, ShowsTick, action_in, end_of_trees, record_at_tick, IsNodeOf, PutsNode, Trees, Node}
 use Rattle.block_map.proofs.Results.{IfOk-both}
 use Rattle.block_map.proofs.TreesLooks.{AreTrees-same, IsRootAfter-kept, IsRootAfter-put, ShowsTick-same, end_of_trees-same}
 use Rattle.block_map.proofs.GrownTries.{IsNodeOf-grown}

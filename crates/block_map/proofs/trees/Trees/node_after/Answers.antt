@@ -1,10 +1,6 @@
-use Rattle.std.proofs.Common.{◌≡◌, unwrap_or, get_or, subst, ap, ◌∙◌, arith}
-use Rattle.svn_dump.specs.Dump.{setting_view}
+use Rattle.block_map.proofs.Common.{◌≡◌, unwrap_or, get_or, subst, ap, ◌∙◌, arith, setting_view, ShowsPath, untouched, IsNodeOf, IsPositionOf, at_path, at_root}
 use Rattle.svn_dump.specs.declared.record.Act.TheVariants as act
 use Rattle.svn_dump.specs.declared.record.Mi.TheVariants as mi
-use Rattle.block_map.specs.Trees.{ShowsPath}
-use Rattle.block_map.specs.Node.{untouched}
-use Rattle.block_map.specs.Trie.{IsNodeOf, IsPositionOf, at_path, at_root}
 use Rattle.block_map.proofs.CopiedNodes.{IsNodeOf-untouched}
 use Rattle.block_map.proofs.RecordNodes.{IsNodeOf-with_setting, ShowsAction-add, ShowsAction-change, ShowsAction-copy, ShowsAction-delete}
 use Rattle.block_map.proofs.trees.Trees.node_after.Goals as goal

@@ -1,11 +1,4 @@
-use Rattle.std.proofs.Common.{◌≡◌, ◌≢◌, refl, List, [], ◌∷◌, Some, length, sym, ap, ◌∙◌}
-use Rattle.std.specs.Prelude.{slice_get}
-use Rattle.std.proofs.lemmas.Bool.{eq-eqb, eqb-true}
-use Rattle.std.proofs.lemmas.List.{nil_from_length}
-use Rattle.svn_path.specs.declared.names.NameId.{NameId}
-use Rattle.block_map.specs.Trees.{ShowsPath}
-use Rattle.block_map.specs.Node.{absent_node}
-use Rattle.block_map.specs.declared.trees.Trees.{Trees}
+use Rattle.block_map.proofs.Common.{◌≡◌, ◌≢◌, refl, List, [], ◌∷◌, Some, length, sym, ap, ◌∙◌, slice_get, eq-eqb, eqb-true, nil_from_length, NameId, ShowsPath, absent_node, Trees}
 use Rattle.block_map.proofs.GrownTries.{slice_get-last}
 use Rattle.block_map.proofs.TreesNodes.{ShowsPath-absent, ShowsPath-location, ShowsPath-root}
 use Rattle.block_map.proofs.trees.Trees.node_before.Goals as goal

@@ -1,6 +1,4 @@
-use Rattle.std.proofs.Common.{◌≡◌, ◌-◌, Some, length, sym, ap, subst, ◌∙◌}
-use Rattle.std.specs.Prelude.{option_copied, slice_get}
-use Rattle.block_map.specs.Trees.{end_of_trees}
+use Rattle.block_map.proofs.Common.{◌≡◌, ◌-◌, Some, length, sym, ap, subst, ◌∙◌, option_copied, slice_get, end_of_trees}
 use Rattle.block_map.proofs.Results.{IfOk-both}
 use Rattle.block_map.proofs.TreesLooks.{IsRootAt-last, IsRootAt-pushed}
 use Rattle.block_map.proofs.trees.Trees.same_root.Goals as goal

@@ -1,7 +1,4 @@
-use Rattle.std.proofs.Common.{◌∷◌, [], Some, sym, ap, subst, ◌∙◌}
-use Rattle.std.proofs.lemmas.Result.{IfOk-weaker}
-use Rattle.block_map.specs.Trie.{PutsNode, child_of}
-use Rattle.block_map.specs.declared.trie.node.Node.{Node}
+use Rattle.block_map.proofs.Common.{◌∷◌, [], Some, sym, ap, subst, ◌∙◌, IfOk-weaker, PutsNode, child_of, Node}
 use Rattle.block_map.proofs.NodesPut.{PutsNode-path}
 use Rattle.block_map.proofs.trie.Trie.+put.Goals as goal
 

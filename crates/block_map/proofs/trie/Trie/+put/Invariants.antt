@@ -1,4 +1,4 @@
-use Rattle.std.proofs.Common.{length}
+use Rattle.block_map.proofs.Common.{length}
 use Rattle.block_map.proofs.trie.Trie.+put.Given as goal
 
 abbrev pub decreases-put : goal.decreases-put

@@ -1,6 +1,4 @@
-use Rattle.std.proofs.Common.{ap, ◌∙◌}
-use Rattle.block_map.specs.Trie.{path_base_view, base_look, position_view}
-use Rattle.block_map.specs.declared.trie.node.Node.{Node}
+use Rattle.block_map.proofs.Common.{ap, ◌∙◌, path_base_view, base_look, position_view, Node}
 use Rattle.block_map.proofs.CopiedNodes.{IsCopiedNode-base}
 use Rattle.block_map.proofs.Positions.{path_base_view-base_of_path}
 use Rattle.block_map.proofs.trie.Trie.copied.Goals as goal

@@ -1,10 +1,5 @@
-use Rattle.std.proofs.Common.{◌≡◌, ◌+◌, List, [], Option, length, take, refl, ap, ◌∙◌, arith, option_map}
-use Rattle.std.proofs.lemmas.List.{length-take-le, take_all}
-use Rattle.block_map.specs.Standing.{mergeinfo_of, standing_of}
-use Rattle.block_map.specs.Trie.{IsPositionOf, TrieValue, at_root, found_at, found_below}
-use Rattle.block_map.specs.declared.trie.node.Node.{Node}
-use Rattle.svn_path.specs.declared.names.NameId.{NameId}
-use Rattle.svn_dump.specs.declared.record.ValueId.{ValueId}
+use Rattle.block_map.proofs.Common.{◌≡◌, ◌+◌, List, [], Option, length, take, refl, ap, ◌∙◌, arith, option_map, length-take-le, mergeinfo_of, standing_of, IsPositionOf, TrieValue, at_root, found_at, found_below, Node, NameId, ValueId}
+use Rattle.std.proofs.lemmas.List.{take_all}
 use Rattle.block_map.proofs.NearestFound.{IsNearestOrNone-all, IsNearestUpTo-more, IsNearestUpTo-root}
 use Rattle.block_map.proofs.Positions.{IsPositionOf-root, IsPositionOf-step}
 use Rattle.block_map.proofs.trie.Trie.entry_and_nearest.Goals as goal

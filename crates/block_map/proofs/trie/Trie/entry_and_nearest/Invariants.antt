@@ -1,6 +1,4 @@
-use Rattle.std.proofs.Common.{take}
-use Rattle.block_map.specs.Standing.{mergeinfo_of}
-use Rattle.block_map.specs.Trie.{IsPositionOf, at_root, found_below}
+use Rattle.block_map.proofs.Common.{take, mergeinfo_of, IsPositionOf, at_root, found_below}
 use Rattle.block_map.proofs.NearestFound.{IsNearestUpTo}
 use Rattle.block_map.proofs.trie.Trie.entry_and_nearest.Given as goal
 

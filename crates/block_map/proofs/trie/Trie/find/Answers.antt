@@ -1,5 +1,4 @@
-use Rattle.std.proofs.Common.{take}
-use Rattle.std.proofs.lemmas.List.{length-take-le}
+use Rattle.block_map.proofs.Common.{take, length-take-le}
 use Rattle.block_map.proofs.Positions.{IsPositionOf-step}
 use Rattle.block_map.proofs.trie.Trie.find.Goals as goal
 

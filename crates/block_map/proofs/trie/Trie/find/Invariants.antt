@@ -1,5 +1,4 @@
-use Rattle.std.proofs.Common.{take}
-use Rattle.block_map.specs.Trie.{IsPositionOf}
+use Rattle.block_map.proofs.Common.{take, IsPositionOf}
 use Rattle.block_map.proofs.trie.Trie.find.Given as goal
 
 abbrev pub invariant-loop-depth : goal.invariant-loop-depth

@@ -1,6 +1,4 @@
-use Rattle.std.proofs.Common.{subst}
-use Rattle.block_map.specs.Locations.{AddsBelow}
-use Rattle.block_map.specs.Trie.{TrieValue}
+use Rattle.block_map.proofs.Common.{subst, AddsBelow, TrieValue}
 use Rattle.block_map.proofs.Positions.{IsBaseOfPath-below}
 use Rattle.block_map.proofs.trie.Trie.node_base.Goals as goal
 

@@ -1,6 +1,4 @@
-use Rattle.std.proofs.Common.{ap, subst, ◌∙◌}
-use Rattle.block_map.specs.ChildMaps.{Extends, SetsChild}
-use Rattle.block_map.specs.Trie.{TrieValue}
+use Rattle.block_map.proofs.Common.{ap, subst, ◌∙◌, Extends, SetsChild, TrieValue}
 use Rattle.block_map.proofs.NodesPut.{PutsNode-child}
 use Rattle.block_map.proofs.trie.Trie.with_child.Goals as goal
 

@@ -1,6 +1,6 @@
+use Rattle.block_map.proofs.Common.{on_ok_weaker}
 use Rattle.std.proofs.lemmas.Iterator.Adapters.{YieldsList-from_rev_slice, items_from_extend}
 use Rattle.std.proofs.lemmas.Iterator.Consumers.{YieldsList-from_copied}
-use Rattle.std.proofs.lemmas.Result.{on_ok_weaker}
 use Rattle.block_map.proofs.trie.locations.push_reversed.Goals as goal
 
 pub returns : goal.returns

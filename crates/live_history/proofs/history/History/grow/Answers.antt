@@ -1,9 +1,4 @@
-use Rattle.std.proofs.Common.{◌++◌, sym, subst}
-use Rattle.std.proofs.lemmas.Result.{err_from_is_err_and}
-use Rattle.svn_dump.specs.Draft.{IsWholeHistory}
-use Rattle.svn_dump.specs.Dump.{history_in_bytes}
-use Rattle.svn_dump.specs.Feed.{IsPausedAt}
-use Rattle.live_history.specs.Talk.{IsLawfulDump}
+use Rattle.live_history.proofs.Common.{◌++◌, sym, subst, err_from_is_err_and, IsWholeHistory, history_in_bytes, IsPausedAt, IsLawfulDump}
 use Rattle.live_history.proofs.Histories.{IsPieceEnd-load, IsPieceEnd-refused}
 use Rattle.live_history.proofs.history.History.grow.Goals as goal
 

@@ -1,8 +1,4 @@
-use Rattle.std.proofs.Common.{sym, subst}
-use Rattle.std.proofs.lemmas.Result.{err_from_is_err_and}
-use Rattle.svn_dump.specs.Dump.{history_in_bytes}
-use Rattle.svn_dump.specs.Feed.{IsPausedAt}
-use Rattle.live_history.specs.Talk.{IsLawfulDump}
+use Rattle.live_history.proofs.Common.{sym, subst, err_from_is_err_and, history_in_bytes, IsPausedAt, IsLawfulDump}
 use Rattle.svn_report.proofs.Fronts.{IsDumpErrorFrom-end}
 use Rattle.live_history.proofs.Histories.{IsNoHistory-dump, IsNoHistory-load}
 use Rattle.live_history.proofs.history.History.read.Goals as goal

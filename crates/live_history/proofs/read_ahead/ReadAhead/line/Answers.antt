@@ -1,5 +1,4 @@
-use Rattle.std.proofs.Common.{drop, take, length, ap, subst, arith, length-drop}
-use Rattle.svn_text.specs.Cut.{IsCutAt, Lacks}
+use Rattle.live_history.proofs.Common.{drop, take, length, ap, subst, arith, length-drop, IsCutAt, Lacks}
 use Rattle.live_history.proofs.ReadAheads.{AreNear-searched, HasLine-found, Lacks-both, drop-whole}
 use Rattle.live_history.proofs.read_ahead.ReadAhead.line.Goals as goal
 

@@ -1,7 +1,4 @@
-use Rattle.std.proofs.Common.{◌≡◌, ◌==◌, ◌++◌, [], inl, inr, refl, sym, ap, subst, ◌∙◌, arith, drop, take, rules}
-use Rattle.std.specs.Io.KnownBytes.{Consumes, prepend_known}
-use Rattle.std.proofs.lemmas.List.{drop-append-le}
-use Rattle.std.proofs.lemmas.Result.{err_from_is_err_and}
+use Rattle.live_history.proofs.Common.{◌≡◌, ◌==◌, ◌++◌, [], inl, inr, refl, sym, ap, subst, ◌∙◌, arith, drop, take, rules, Consumes, prepend_known, drop-append-le, err_from_is_err_and}
 use Rattle.live_history.proofs.ReadAheads.{Consumes-ahead, Consumes-piece, Consumes-unread, Consumes-unread-kept, Consumes-unread-more, one_at_most}
 use Rattle.live_history.proofs.read_ahead.ReadAhead.read.Goals as goal
 

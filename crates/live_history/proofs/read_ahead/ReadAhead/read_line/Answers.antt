@@ -1,5 +1,4 @@
-use Rattle.std.proofs.Common.{arith, inl, refl, rules}
-use Rattle.live_history.specs.ReadAhead.{stream}
+use Rattle.live_history.proofs.Common.{arith, inl, refl, rules, stream}
 use Rattle.live_history.proofs.Streams.{AreLast-more}
 use Rattle.live_history.proofs.Waiting.{IsRepliedUpTo-same}
 use Rattle.live_history.proofs.read_ahead.ReadAhead.read_line.Goals as goal

@@ -1,6 +1,4 @@
-use Rattle.std.proofs.Common.{◌≡◌, ◌≤◌, []}
-use Rattle.live_history.specs.ReadAhead.{room, stream}
-use Rattle.live_history.specs.Stream.{AreTaken}
+use Rattle.live_history.proofs.Common.{◌≡◌, ◌≤◌, [], room, stream, AreTaken}
 use Rattle.live_history.proofs.read_ahead.ReadAhead.read_line.Given as goal
 
 abbrev pub invariant-reads : goal.invariant-reads

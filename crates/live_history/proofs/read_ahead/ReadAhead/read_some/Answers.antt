@@ -1,6 +1,5 @@
-use Rattle.std.proofs.Common.{length, sym, ◌∙◌}
+use Rattle.live_history.proofs.Common.{length, sym, ◌∙◌, nil_from_length}
 use Rattle.std.proofs.lemmas.Bool.{eqb-true}
-use Rattle.std.proofs.lemmas.List.{nil_from_length}
 use Rattle.live_history.proofs.Waiting.{IsAllRepliedTo-piece}
 use Rattle.live_history.proofs.read_ahead.ReadAhead.read_some.Goals as goal
 

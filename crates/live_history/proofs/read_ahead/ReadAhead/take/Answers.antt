@@ -1,6 +1,4 @@
-use Rattle.std.proofs.Common.{◌+◌, ◌-◌, drop, take, length, sym, ap, subst, arith, length-drop}
-use Rattle.std.proofs.lemmas.List.{drop-drop}
-use Rattle.svn_text.specs.Cut.{Lacks}
+use Rattle.live_history.proofs.Common.{◌+◌, ◌-◌, drop, take, length, sym, ap, subst, arith, length-drop, drop-drop, Lacks}
 use Rattle.live_history.proofs.ReadAheads.{Lacks-left}
 use Rattle.live_history.proofs.read_ahead.ReadAhead.take.Goals as goal
 

@@ -1,4 +1,4 @@
-use Rattle.std.proofs.Common.{refl}
+use Rattle.live_history.proofs.Common.{refl}
 use Rattle.live_history.proofs.talk_error.TalkError.print.Goals as goal
 
 pub returns-in-TooMany : goal.returns-in-TooMany

@@ -1,8 +1,6 @@
-use Rattle.std.proofs.Common.{◌≡◌, ◌∙◌, true, false, refl, Err, ap, rules}
+use Rattle.merge_info.proofs.Common.{◌≡◌, ◌∙◌, true, false, refl, Err, ap, rules, false_from_ne_true, iff_false, has_clash, line_from, line_of}
 use Rattle.std.proofs.lemmas.Result.{err_from_is_err_and}
 use Rattle.merge_info.specs.declared.error.MergeError.TheVariants.{Malformed}
-use Rattle.std.proofs.lemmas.Bool.{false_from_ne_true, iff_false}
-use Rattle.merge_info.specs.Line.{has_clash, line_from, line_of}
 use Rattle.merge_info.proofs.LineReads.{IsPrintedPath-of_bytes, line_of-line_from, line_of-malformed_list, line_of-uncut}
 use Rattle.merge_info.proofs.line.Line.read.Goals as goal
 use Rattle.merge_info.proofs.line.Line.read.Goals.{In_ok-runs}

@@ -1,5 +1,4 @@
-use Rattle.std.proofs.Common.{◌≡◌, map, take}
-use Rattle.merge_info.specs.Value.{entry_view}
+use Rattle.merge_info.proofs.Common.{◌≡◌, map, take, entry_view}
 use Rattle.merge_info.proofs.merge_info.MergeInfo.dup.Given as goal
 
 abbrev pub invariant-loop-entry : goal.invariant-loop-entry

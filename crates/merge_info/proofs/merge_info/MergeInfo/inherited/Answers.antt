@@ -1,7 +1,4 @@
-use Rattle.std.proofs.Common.{All, map, take}
-use Rattle.std.proofs.lemmas.List.{take-map}
-use Rattle.std.proofs.lemmas.List.Elements.{All-take}
-use Rattle.merge_info.specs.Value.{IsEntry, entry_view}
+use Rattle.merge_info.proofs.Common.{All, map, take, take-map, All-take, IsEntry, entry_view}
 use Rattle.merge_info.proofs.Each.{All-from_map_at}
 use Rattle.merge_info.proofs.Inheriting.{AreLines-inherited}
 use Rattle.merge_info.proofs.merge_info.MergeInfo.inherited.Goals as goal

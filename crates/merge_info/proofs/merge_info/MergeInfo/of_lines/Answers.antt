@@ -1,10 +1,6 @@
-use Rattle.std.proofs.Common.{◌≡◌, ◌∷◌, map, sym, ap, ◌∙◌}
-use Rattle.std.proofs.lemmas.Bool.{iff_false}
-use Rattle.std.proofs.lemmas.List.{map_push}
-use Rattle.std.proofs.lemmas.List.Elements.{All-head}
+use Rattle.merge_info.proofs.Common.{◌≡◌, ◌∷◌, map, sym, ap, ◌∙◌, iff_false, map_push, All-head, IsLine, line_view}
 use Rattle.std.proofs.lemmas.Map.Iter.{rest_more}
 use Rattle.range_list.specs.Canonical.{canonical_runs}
-use Rattle.merge_info.specs.Line.{IsLine, line_view}
 use Rattle.merge_info.proofs.CanonicalEntries.{IsSoFar-all, IsSoFar-none, IsSoFar-push, IsSoFar-skip}
 use Rattle.merge_info.proofs.RunsByPath.{MapEntry, line_in}
 use Rattle.merge_info.proofs.merge_info.MergeInfo.of_lines.Goals as goal

@@ -1,6 +1,4 @@
-use Rattle.std.proofs.Common.{map}
-use Rattle.merge_info.specs.Line.{line_view}
-use Rattle.merge_info.specs.Value.{entry_view}
+use Rattle.merge_info.proofs.Common.{map, line_view, entry_view}
 use Rattle.merge_info.proofs.CanonicalEntries.{IsSoFar}
 use Rattle.merge_info.proofs.RunsByPath.{line_in}
 use Rattle.merge_info.proofs.merge_info.MergeInfo.of_lines.Given as goal

@@ -1,10 +1,5 @@
-use Rattle.std.proofs.Common.{◌≡◌, ◌<◌, true, false, bytes_eq, length, get_or, sym, ap, ◌∙◌, rules, arith}
-use Rattle.std.proofs.lemmas.Bool.{ltb-false}
-use Rattle.std.proofs.lemmas.List.Sorted.{IsPartitionPoint-from_clause}
-use Rattle.std.specs.List.Sorted.{IsPartitionedBy}
+use Rattle.merge_info.proofs.Common.{◌≡◌, ◌<◌, true, false, bytes_eq, length, get_or, sym, ap, ◌∙◌, rules, arith, ltb-false, IsPartitionPoint-from_clause, IsPartitionedBy, ranges_of, Entry}
 use Rattle.std.specs.Option.{is_some}
-use Rattle.merge_info.specs.Value.{ranges_of}
-use Rattle.merge_info.specs.declared.entry.Entry.{Entry}
 use Rattle.merge_info.proofs.Entries.{IsPartitionedBy-is_before, is_before, is_lt-slice_partial_cmp, ranges_of-found, ranges_of-not_found}
 use Rattle.merge_info.proofs.merge_info.MergeInfo.ranges.Goals as goal
 use Rattle.merge_info.proofs.merge_info.MergeInfo.ranges.Goals.{in_default-via-in-Some+else-eq, in_default-via-in_default}

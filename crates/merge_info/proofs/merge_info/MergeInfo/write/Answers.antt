@@ -1,5 +1,4 @@
-use Rattle.std.proofs.Common.{subst}
-use Rattle.merge_info.specs.Value.{IsMergeInfo}
+use Rattle.merge_info.proofs.Common.{subst, IsMergeInfo}
 use Rattle.merge_info.proofs.OnlyValues.{only_value}
 use Rattle.merge_info.proofs.ReadsBack.{lines_of-value_text}
 use Rattle.merge_info.proofs.merge_info.MergeInfo.write.Goals as goal

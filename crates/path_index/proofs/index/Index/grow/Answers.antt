@@ -1,4 +1,4 @@
-use Rattle.std.proofs.Common.{length, sym, ap, arith, length-append}
+use Rattle.path_index.proofs.Common.{length, sym, ap, arith, length-append}
 use Rattle.path_index.proofs.index.Index.grow.Goals as goal
 
 pub invariant_of-result : goal.invariant_of-result

@@ -1,11 +1,5 @@
-use Rattle.std.proofs.Common.{Some, IfSome, refl, sym, ap, subst, ◌∙◌}
-use Rattle.svn_dump.specs.Location.{location}
-use Rattle.svn_path.specs.Path.{same_name}
-use Rattle.path_index.specs.History.{trees_to}
-use Rattle.path_index.specs.Index.{IsThere}
-use Rattle.svn_dump.specs.declared.record.Origin.{Origin}
+use Rattle.path_index.proofs.Common.{Some, IfSome, refl, sym, ap, subst, ◌∙◌, location, same_name, trees_to, IsThere, Origin, location_before}
 use Rattle.path_index.proofs.Traces.{IsTraced, location_past, location_before-Some}
-use Rattle.path_index.specs.Span.{location_before}
 use Rattle.path_index.proofs.index.Index.locate.Goals as goal
 
 pub loop-at-init : goal.loop-at-init

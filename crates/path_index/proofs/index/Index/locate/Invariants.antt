@@ -1,6 +1,4 @@
-use Rattle.svn_dump.specs.Location.{location}
-use Rattle.svn_path.specs.Path.{same_name}
-use Rattle.path_index.specs.History.{trees_to}
+use Rattle.path_index.proofs.Common.{location, same_name, trees_to}
 use Rattle.path_index.proofs.Traces.{IsTraced}
 use Rattle.path_index.proofs.index.Index.locate.Given as goal
 

@@ -1,6 +1,4 @@
-use Rattle.std.proofs.Common.{None, ◌∙◌}
-use Rattle.std.proofs.lemmas.Result.{IfOk-weaker}
-use Rattle.path_index.specs.Index.{AreHitsInRange, AreHitsOf}
+use Rattle.path_index.proofs.Common.{None, ◌∙◌, IfOk-weaker, AreHitsInRange, AreHitsOf}
 use Rattle.path_index.proofs.RangesOfNumbers.{filter-all}
 use Rattle.path_index.proofs.index.Index.operative.Goals as goal
 

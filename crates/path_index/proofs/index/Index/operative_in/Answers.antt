@@ -1,11 +1,7 @@
-use Rattle.std.proofs.Common.{◌≡◌, ◌+◌, ◌∷◌, Global, None, Some, Vec, drop, map, append-nil, sym, ap, ◌∙◌, arith}
+use Rattle.path_index.proofs.Common.{◌≡◌, ◌+◌, ◌∷◌, Global, None, Some, Vec, drop, map, append-nil, sym, ap, ◌∙◌, arith, drop_more, drop-map, length-map, segment_view, is_in_range, Hit}
 use Rattle.std.specs.Prelude.{filter}
-use Rattle.std.proofs.lemmas.List.{drop_more, drop-map, length-map}
 use Rattle.path_index.proofs.HitsOfSegments.{AreHitsTo-more, hits-AreHitsTo}
 use Rattle.path_index.proofs.Operative.{hits_from-operative_of}
-use Rattle.path_index.specs.Index.{segment_view}
-use Rattle.path_index.specs.Range.{is_in_range}
-use Rattle.path_index.specs.declared.segment.Hit.{Hit}
 use Rattle.path_index.proofs.index.Index.operative_in.Goals as goal
 use Rattle.path_index.proofs.index.Index.operative_in.Goals.{in-Some+in_ok-push_operative, in_default}
 

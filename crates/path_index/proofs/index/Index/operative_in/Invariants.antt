@@ -1,8 +1,5 @@
-use Rattle.std.proofs.Common.{map}
+use Rattle.path_index.proofs.Common.{map, segment_view, is_in_range, Hit}
 use Rattle.path_index.proofs.HitsOfSegments.{AreHitsTo}
-use Rattle.path_index.specs.Index.{segment_view}
-use Rattle.path_index.specs.Range.{is_in_range}
-use Rattle.path_index.specs.declared.segment.Hit.{Hit}
 use Rattle.path_index.proofs.index.Index.operative_in.Given as goal
 
 abbrev pub invariant-loop-index : goal.invariant-loop-index

@@ -1,8 +1,4 @@
-use Rattle.std.proofs.Common.{◌≡◌, ◌&&◌, true, false, max, nat_lt, append-nil, sym, ap, ap₂, subst, ◌∙◌}
-use Rattle.std.proofs.lemmas.Bool.{lt-ltb, le-ltb}
-use Rattle.path_index.specs.Index.{IndexValue}
-use Rattle.path_index.specs.Range.{is_in_range}
-use Rattle.path_index.specs.RecordsByPath.{AreByPath}
+use Rattle.path_index.proofs.Common.{◌≡◌, ◌&&◌, true, false, max, nat_lt, append-nil, sym, ap, ap₂, subst, ◌∙◌, lt-ltb, le-ltb, IndexValue, is_in_range, AreByPath}
 use Rattle.path_index.proofs.RangesOfNumbers.{hits-in_range}
 use Rattle.path_index.proofs.index.Index.push_operative.Goals as goal
 use Rattle.path_index.proofs.index.Index.push_operative.Goals.{else-segment-gt0-via-then-segment-gt0+else-is_in_range, else-segment-gt0-via-else-segment-gt0}

@@ -1,18 +1,8 @@
-use Rattle.std.proofs.Common.{◌≡◌, ◌≢◌, ℕ, ◌+◌, ◌<◌, ◌≤◌, List, Some, IfSome, [], ◌∷◌, ◌++◌, ◌⊎◌, inl, inr, map, refl, sym, ap, subst, ◌∙◌, arith, true≢false, Bool, true, false, not}
-use Rattle.std.proofs.lemmas.List.{map-append}
+use Rattle.path_index.proofs.Common.{◌≡◌, ◌≢◌, ℕ, ◌+◌, ◌<◌, ◌≤◌, List, Some, IfSome, [], ◌∷◌, ◌++◌, ◌⊎◌, inl, inr, map, refl, sym, ap, subst, ◌∙◌, arith, true≢false, Bool, true, false, not, map-append, location, same_name, NameId, trees_to, Segment, segments_of, IsThere, gap_between, segment_view, Origin, NodeRecord, IsSpan, location_before}
 use Rattle.std.specs.Cmp.Lexicographic.{pointwise}
-use Rattle.svn_dump.specs.Location.{location}
-use Rattle.svn_path.specs.Path.{same_name}
-use Rattle.svn_path.specs.declared.names.NameId.{NameId}
 use Rattle.svn_path.proofs.Orders.{paths_eq-Decides}
-use Rattle.path_index.specs.History.{trees_to}
-use Rattle.path_index.specs.Segment.{Segment, segments_of}
-use Rattle.path_index.specs.Index.{IsThere, gap_between, segment_view}
-use Rattle.svn_dump.specs.declared.record.Origin.{Origin}
-use Rattle.svn_dump.specs.declared.record.NodeRecord.{NodeRecord}
 use Rattle.path_index.proofs.Segments.{AreSegments-segments_of}
 use Rattle.path_index.proofs.Traces.{IsGathered, IsGathered-none, IsGathered-all, IsGathered-on, IsGathered_push}
-use Rattle.path_index.specs.Span.{IsSpan, location_before}
 use Rattle.path_index.specs.declared.span.Span.{Span}
 use Rattle.path_index.proofs.index.Index.segments.Goals as goal
 use Rattle.path_index.proofs.index.Index.segments.Goals.{then-ne-via-then-ne, then-ne-via-else-ne+then-at-lo}

@@ -1,8 +1,4 @@
-use Rattle.std.proofs.Common.{map}
-use Rattle.svn_dump.specs.Location.{location}
-use Rattle.svn_path.specs.Path.{same_name}
-use Rattle.path_index.specs.History.{trees_to}
-use Rattle.path_index.specs.Index.{segment_view}
+use Rattle.path_index.proofs.Common.{map, location, same_name, trees_to, segment_view}
 use Rattle.path_index.proofs.Traces.{IsGathered}
 use Rattle.path_index.proofs.index.Index.segments.Given as goal
 

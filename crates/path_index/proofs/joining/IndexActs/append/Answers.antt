@@ -1,6 +1,5 @@
-use Rattle.std.proofs.Common.{◌≡◌, ◌+◌, ◌^◌, ◌<◌, ◌++◌, length, sym, ap, subst, ◌∙◌, append_assoc, arith, length-append}
+use Rattle.path_index.proofs.Common.{◌≡◌, ◌+◌, ◌^◌, ◌<◌, ◌++◌, length, sym, ap, subst, ◌∙◌, append_assoc, arith, length-append, AreByPath}
 use Rattle.path_index.specs.Joining.{put_records_before, records_before, records_up_to_end}
-use Rattle.path_index.specs.RecordsByPath.{AreByPath}
 use Rattle.path_index.proofs.joining.IndexActs.append.Goals as goal
 
 pub invariant_of-result : goal.invariant_of-result

@@ -1,5 +1,4 @@
-use Rattle.std.proofs.Common.{ap, ◌∙◌}
-use Rattle.std.proofs.lemmas.Result.{IfOk-weaker}
+use Rattle.path_index.proofs.Common.{ap, ◌∙◌, IfOk-weaker}
 use Rattle.path_index.specs.Joining.{put_records_before}
 use Rattle.path_index.proofs.joining.IndexActs.join.Goals as goal
 

@@ -1,9 +1,4 @@
-use Rattle.std.proofs.Common.{◌≡◌, ◌≤◌, ℕ, List, Bool, true, false, true≢false, IsSome, length, if◌then◌else◌, refl, sym, subst, ◌∙◌, arith}
-use Rattle.std.specs.List.{list_any}
-use Rattle.std.proofs.lemmas.Bool.{cond-true}
-use Rattle.svn_path.specs.declared.names.NameId.{NameId}
-use Rattle.path_index.specs.Nodes.{child_of, same_child, HaveParentsBefore}
-use Rattle.path_index.specs.declared.nodes.Child.{Child}
+use Rattle.path_index.proofs.Common.{◌≡◌, ◌≤◌, ℕ, List, Bool, true, false, true≢false, IsSome, length, if◌then◌else◌, refl, sym, subst, ◌∙◌, arith, list_any, cond-true, NameId, child_of, same_child, HaveParentsBefore, Child}
 use Rattle.path_index.proofs.NodesOfPaths.{child_of-any, HaveParentsBefore-insert}
 use Rattle.path_index.proofs.nodes.Nodes.add.Goals as goal
 

@@ -1,8 +1,4 @@
-use Rattle.std.proofs.Common.{◌≡◌, ◌<◌, ◌≤◌, ℕ, List, Some, get_or, length, slice_get, sym, subst, ◌∙◌, arith}
-use Rattle.std.proofs.lemmas.List.{get_or_default}
-use Rattle.std.proofs.lemmas.Option.{slice_get-get_or}
-use Rattle.path_index.specs.Nodes.{child_of, AreNodesOf, HaveParentsBefore}
-use Rattle.path_index.specs.declared.nodes.Child.{Child}
+use Rattle.path_index.proofs.Common.{◌≡◌, ◌<◌, ◌≤◌, ℕ, List, Some, get_or, length, slice_get, sym, subst, ◌∙◌, arith, get_or_default, slice_get-get_or, child_of, AreNodesOf, HaveParentsBefore, Child}
 use Rattle.path_index.proofs.EntriesOfPaths.{ExtendsNodes-none, ExtendsNodes-again}
 use Rattle.path_index.proofs.MappedNodes.{AreMapped-root, AreMapped-next, AreNodesOf-mapped}
 use Rattle.path_index.proofs.nodes.Nodes.add_all.Goals as goal

@@ -1,4 +1,4 @@
-use Rattle.path_index.specs.Nodes.{ExtendsNodes}
+use Rattle.path_index.proofs.Common.{ExtendsNodes}
 use Rattle.path_index.proofs.MappedNodes.{AreMapped}
 use Rattle.path_index.proofs.nodes.Nodes.add_all.Given as goal
 

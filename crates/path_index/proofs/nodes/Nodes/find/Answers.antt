@@ -1,6 +1,4 @@
-use Rattle.std.proofs.Common.{◌≡◌, ◌+◌, ◌≤◌, None, length, take, sym, ap, ◌∙◌, arith}
-use Rattle.std.proofs.lemmas.List.{take_all}
-use Rattle.path_index.specs.Nodes.{node_of}
+use Rattle.path_index.proofs.Common.{◌≡◌, ◌+◌, ◌≤◌, None, length, take, sym, ap, ◌∙◌, arith, take_all, node_of}
 use Rattle.path_index.proofs.NodesOfPaths.{node_of-take_more, node_of-take_none}
 use Rattle.path_index.proofs.nodes.Nodes.find.Goals as goal
 

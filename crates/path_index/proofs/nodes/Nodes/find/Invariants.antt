@@ -1,5 +1,4 @@
-use Rattle.std.proofs.Common.{◌≡◌, Some, take}
-use Rattle.path_index.specs.Nodes.{node_of}
+use Rattle.path_index.proofs.Common.{◌≡◌, Some, take, node_of}
 use Rattle.path_index.proofs.nodes.Nodes.find.Given as goal
 
 abbrev pub invariant-loop-name : goal.invariant-loop-name

@@ -1,8 +1,4 @@
-use Rattle.std.proofs.Common.{◌≡◌, Some, suc, slice_get, length, sym, ap, subst, ◌∙◌, arith}
-use Rattle.std.proofs.lemmas.Bool.{ltb-true}
-use Rattle.std.proofs.lemmas.Option.{slice_get-get_or}
-use Rattle.path_index.specs.Nodes.{child_of}
-use Rattle.path_index.specs.declared.nodes.Child.{Child}
+use Rattle.path_index.proofs.Common.{◌≡◌, Some, suc, slice_get, length, sym, ap, subst, ◌∙◌, arith, ltb-true, slice_get-get_or, child_of, Child}
 use Rattle.path_index.proofs.ChildrenDistinct.{child_of-distinct, same_child-at}
 use Rattle.path_index.proofs.NodesOfPaths.{same_child-is}
 use Rattle.path_index.proofs.nodes.Nodes.is_child.Goals as goal

@@ -1,6 +1,4 @@
-use Rattle.std.proofs.Common.{map, ap, subst, ◌∙◌}
-use Rattle.std.proofs.lemmas.List.{take_all}
-use Rattle.path_index.specs.Numbers.{HaveSameNumbers}
+use Rattle.path_index.proofs.Common.{map, ap, subst, ◌∙◌, take_all, HaveSameNumbers}
 use Rattle.path_index.proofs.ListsOfNodes.{items_in, AreAllRising-same, HaveSameNumbers-map}
 use Rattle.path_index.proofs.numbers.Numbers.dup.Goals as goal
 

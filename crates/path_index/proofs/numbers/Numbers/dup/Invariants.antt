@@ -1,4 +1,4 @@
-use Rattle.std.proofs.Common.{◌≡◌, map, take}
+use Rattle.path_index.proofs.Common.{◌≡◌, map, take}
 use Rattle.path_index.proofs.ListsOfNodes.{items_in}
 use Rattle.path_index.proofs.numbers.Numbers.dup.Given as goal
 

@@ -1,6 +1,4 @@
-use Rattle.std.proofs.Common.{◌≡◌, sym, ap, subst, ◌∙◌}
-use Rattle.std.proofs.lemmas.Result.{on_ok_weaker}
-use Rattle.path_index.specs.Numbers.{numbers_of, HaveSameNumbers}
+use Rattle.path_index.proofs.Common.{◌≡◌, sym, ap, subst, ◌∙◌, on_ok_weaker, numbers_of, HaveSameNumbers}
 use Rattle.path_index.proofs.ListsOfNodes.{items_in, numbers_of-set_other, numbers_of-within, AddsNumbers-same, AddsNumbers-set}
 use Rattle.path_index.proofs.numbers.Numbers.insert.Goals as goal
 

@@ -1,7 +1,4 @@
-use Rattle.std.proofs.Common.{◌≡◌, length, arith, ◌∙◌, get_or}
-use Rattle.std.proofs.lemmas.List.{get_or_default}
-use Rattle.std.proofs.lemmas.Option.{slice_get-get_or}
-use Rattle.path_index.specs.Numbers.{numbers_of}
+use Rattle.path_index.proofs.Common.{◌≡◌, length, arith, ◌∙◌, get_or, get_or_default, slice_get-get_or, numbers_of}
 use Rattle.path_index.proofs.ListsOfNodes.{AddsNumbers-next_node}
 use Rattle.path_index.proofs.numbers.Numbers.insert_all.Goals as goal
 

@@ -1,5 +1,4 @@
-use Rattle.std.proofs.Common.{◌≡◌, ℕ, ◌≤◌}
-use Rattle.path_index.specs.Numbers.{numbers_of, AddsNumbers, IsMoved}
+use Rattle.path_index.proofs.Common.{◌≡◌, ℕ, ◌≤◌, numbers_of, AddsNumbers, IsMoved}
 use Rattle.path_index.proofs.numbers.Numbers.insert_all.Given as goal
 
 abbrev pub invariant-loop-from : goal.invariant-loop-from

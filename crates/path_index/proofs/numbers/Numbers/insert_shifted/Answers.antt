@@ -1,5 +1,4 @@
-use Rattle.std.proofs.Common.{get_or, ◌∙◌}
-use Rattle.std.proofs.lemmas.List.{take_more}
+use Rattle.path_index.proofs.Common.{get_or, ◌∙◌, take_more}
 use Rattle.path_index.proofs.ListsOfNodes.{AddsNumbers-next_shifted, AddsNumbers-none_shifted}
 use Rattle.path_index.proofs.numbers.Numbers.insert_shifted.Goals as goal
 

@@ -1,5 +1,4 @@
-use Rattle.std.proofs.Common.{take}
-use Rattle.path_index.specs.Numbers.{AddsNumbers, IsShifted, KeepOthers}
+use Rattle.path_index.proofs.Common.{take, AddsNumbers, IsShifted, KeepOthers}
 use Rattle.path_index.proofs.numbers.Numbers.insert_shifted.Given as goal
 
 abbrev pub invariant-loop-number : goal.invariant-loop-number

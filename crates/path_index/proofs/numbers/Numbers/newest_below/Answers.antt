@@ -1,5 +1,4 @@
-use Rattle.std.proofs.Common.{arith, ◌∙◌}
-use Rattle.path_index.specs.Numbers.{numbers_of}
+use Rattle.path_index.proofs.Common.{arith, ◌∙◌, numbers_of}
 use Rattle.path_index.proofs.NumbersOfNodes.{IsNewestBelow-last}
 use Rattle.path_index.proofs.numbers.Numbers.newest_below.Goals as goal
 

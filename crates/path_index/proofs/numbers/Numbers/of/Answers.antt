@@ -1,7 +1,4 @@
-use Rattle.std.proofs.Common.{◌≡◌, ℕ, ◌<◌, length, sym, subst, ap, ◌∙◌}
-use Rattle.smallvec.specs.SmallVec.{SmallVec}
-use Rattle.std.proofs.lemmas.Bool.{ltb-true}
-use Rattle.path_index.specs.Numbers.{numbers_of, IsRising}
+use Rattle.path_index.proofs.Common.{◌≡◌, ℕ, ◌<◌, length, sym, subst, ap, ◌∙◌, SmallVec, ltb-true, numbers_of, IsRising}
 use Rattle.path_index.proofs.ListsOfNodes.{numbers_of-past, numbers_of-within}
 use Rattle.path_index.proofs.numbers.Numbers.of.Goals as goal
 

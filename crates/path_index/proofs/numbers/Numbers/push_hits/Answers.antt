@@ -1,5 +1,4 @@
-use Rattle.std.proofs.Common.{arith}
-use Rattle.std.proofs.lemmas.List.{nil_from_length}
+use Rattle.path_index.proofs.Common.{arith, nil_from_length}
 use Rattle.path_index.proofs.NumbersOfNodes.{IsPushed-start, IsPushed_push, hits-IsPushed, le_from_last}
 use Rattle.path_index.proofs.numbers.Numbers.push_hits.Goals as goal
 

@@ -1,4 +1,4 @@
-use Rattle.std.proofs.Common.{length}
+use Rattle.path_index.proofs.Common.{length}
 use Rattle.path_index.proofs.NumbersOfNodes.{IsPushed}
 use Rattle.path_index.proofs.numbers.Numbers.push_hits.Given as goal
 

@@ -1,6 +1,4 @@
-use Rattle.std.proofs.Common.{rules, ◌≡◌, leb, true, false}
-use Rattle.std.specs.List.Sorted.{IsPartitionPoint}
-use Rattle.std.proofs.lemmas.List.Sorted.{IsPartitionedBy-leb, IsPartitionPoint-from_clause}
+use Rattle.path_index.proofs.Common.{rules, ◌≡◌, leb, true, false, IsPartitionPoint, IsPartitionedBy-leb, IsPartitionPoint-from_clause}
 use Rattle.path_index.proofs.NumbersOfNodes.{IsNonDecreasing-rising, IsFrontUpTo-take}
 use Rattle.path_index.proofs.numbers.Numbers.up_to.Goals as goal
 

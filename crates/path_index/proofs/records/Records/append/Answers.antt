@@ -1,5 +1,4 @@
-use Rattle.std.proofs.Common.{◌≡◌, ap, length, arith}
-use Rattle.std.proofs.lemmas.List.{length-map}
+use Rattle.path_index.proofs.Common.{◌≡◌, ap, length, arith, length-map}
 use Rattle.svn_dump.specs.declared.record.NodeRecord.{NodeRecord as Record}
 use Rattle.path_index.proofs.KeptRecords.{AreKept-append}
 use Rattle.path_index.proofs.records.Records.append.Goals as goal

@@ -1,10 +1,4 @@
-use Rattle.std.proofs.Common.{rules, ◌≡◌, ◌≢◌, ◌<◌, ltb, true, false, true≢false, Option, None, Some, is_some, refl, length, get_or, sym, ap, subst, ◌∙◌, arith}
-use Rattle.std.specs.List.Sorted.{IsPartitionPoint}
-use Rattle.std.proofs.lemmas.Bool.{lt-ltb}
-use Rattle.std.proofs.lemmas.List.{get_or_default}
-use Rattle.std.proofs.lemmas.List.Sorted.{IsPartitionedBy-ltb, IsPartitionPoint-from_clause}
-use Rattle.path_index.specs.Records.{AreCopies}
-use Rattle.path_index.specs.declared.copied.Copied.{Copied}
+use Rattle.path_index.proofs.Common.{rules, ◌≡◌, ◌≢◌, ◌<◌, ltb, true, false, true≢false, Option, None, Some, is_some, refl, length, get_or, sym, ap, subst, ◌∙◌, arith, IsPartitionPoint, lt-ltb, get_or_default, IsPartitionedBy-ltb, IsPartitionPoint-from_clause, AreCopies, Copied}
 use Rattle.path_index.proofs.KeptRecords.{IsNonDecreasingBy-indices, no_copy_at}
 use Rattle.path_index.proofs.records.Records.copy_at.Goals as goal
 use Rattle.path_index.proofs.records.Records.copy_at.Goals.{in_default-via-in-Some+else-copied-index, in_default-via-in_default}

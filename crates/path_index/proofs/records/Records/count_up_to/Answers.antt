@@ -1,9 +1,5 @@
-use Rattle.std.proofs.Common.{rules, ◌≡◌, ◌≤◌, leb, true, false, subst, sym, ap, length, ◌∙◌, arith}
-use Rattle.std.specs.List.Sorted.{IsNonDecreasing, IsPartitionPoint}
-use Rattle.std.proofs.lemmas.List.Sorted.{IsPartitionedBy-leb, IsPartitionPoint-from_clause}
-use Rattle.std.proofs.lemmas.List.{length-map}
+use Rattle.path_index.proofs.Common.{rules, ◌≡◌, ◌≤◌, leb, true, false, subst, sym, ap, length, ◌∙◌, arith, IsNonDecreasing, IsPartitionPoint, IsPartitionedBy-leb, IsPartitionPoint-from_clause, length-map, revs_of}
 use Rattle.svn_dump.specs.declared.record.NodeRecord.{NodeRecord as Record}
-use Rattle.path_index.specs.Records.{revs_of}
 use Rattle.path_index.proofs.KeptRecords.{IsNonDecreasing-revs, IsPartitionPoint-revs}
 use Rattle.path_index.proofs.records.Records.count_up_to.Goals as goal
 

@@ -1,4 +1,4 @@
-use Rattle.std.proofs.Common.{◌∙◌}
+use Rattle.path_index.proofs.Common.{◌∙◌}
 use Rattle.path_index.proofs.records.Records.dup.Goals as goal
 
 pub invariant_of-result : goal.invariant_of-result

@@ -1,5 +1,4 @@
-use Rattle.std.proofs.Common.{sym, ◌∙◌}
-use Rattle.std.proofs.lemmas.Option.{same_Some}
+use Rattle.path_index.proofs.Common.{sym, ◌∙◌, same_Some}
 use Rattle.path_index.proofs.KeptRecords.{SetsOrigin-copied}
 use Rattle.path_index.proofs.RecordEffects.{SetsOrigin-no_copy}
 use Rattle.path_index.proofs.records.Records.origin.Goals as goal

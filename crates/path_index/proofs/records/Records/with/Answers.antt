@@ -1,5 +1,4 @@
-use Rattle.std.proofs.Common.{◌≡◌, ◌+◌, ◌++◌, ◌∷◌, [], length, take, sym, ap, ◌∙◌, append_assoc, arith, length-append}
-use Rattle.std.proofs.lemmas.List.{length-map, length-take-le, map-append, take_more}
+use Rattle.path_index.proofs.Common.{◌≡◌, ◌+◌, ◌++◌, ◌∷◌, [], length, take, sym, ap, ◌∙◌, append_assoc, arith, length-append, length-map, length-take-le, map-append, take_more}
 use Rattle.svn_dump.specs.declared.record.NodeRecord.{NodeRecord as Record}
 use Rattle.path_index.proofs.records.Records.with.Goals as goal
 

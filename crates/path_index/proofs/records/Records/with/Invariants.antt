@@ -1,5 +1,4 @@
-use Rattle.std.proofs.Common.{◌≡◌, ◌++◌, take}
-use Rattle.path_index.specs.Records.{AreKept}
+use Rattle.path_index.proofs.Common.{◌≡◌, ◌++◌, take, AreKept}
 use Rattle.path_index.proofs.records.Records.with.Given as goal
 
 abbrev pub invariant-loop-index : goal.invariant-loop-index

@@ -1,5 +1,4 @@
-use Rattle.std.proofs.Common.{subst, arith}
-use Rattle.path_index.specs.RecordEffect.{IsAddition, IsCopy}
+use Rattle.path_index.proofs.Common.{subst, arith, IsAddition, IsCopy}
 use Rattle.path_index.proofs.EntriesOfPaths.{AddsEntries-own, AddsEntries-other, AreListed-more}
 use Rattle.path_index.proofs.RecordEffects.{not_IsAddition, not_IsCopy}
 use Rattle.path_index.proofs.records_by_path.RecordsByPath.add.Goals as goal

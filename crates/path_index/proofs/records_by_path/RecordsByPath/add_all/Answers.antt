@@ -1,7 +1,4 @@
-use Rattle.std.proofs.Common.{◌+◌, ◌++◌, Some, slice_get, sym, ap, subst, ◌∙◌, arith, length-append}
-use Rattle.std.proofs.lemmas.Option.{slice_get-get_or}
-use Rattle.path_index.specs.RecordsByPath.{AreListed}
-use Rattle.svn_dump.proofs.Lists.{slice_get-second}
+use Rattle.path_index.proofs.Common.{◌+◌, ◌++◌, Some, slice_get, sym, ap, subst, ◌∙◌, arith, length-append, slice_get-get_or, AreListed, slice_get-second}
 use Rattle.path_index.proofs.EntriesOfPaths.{AreListed-longer}
 use Rattle.path_index.proofs.records_by_path.RecordsByPath.add_all.Goals as goal
 

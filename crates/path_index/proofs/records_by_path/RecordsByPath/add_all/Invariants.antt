@@ -1,6 +1,5 @@
-use Rattle.std.proofs.Common.{◌≡◌, ◌+◌, List, ◌++◌, length}
+use Rattle.path_index.proofs.Common.{◌≡◌, ◌+◌, List, ◌++◌, length, AreByPath, AreListed}
 use Rattle.svn_dump.specs.declared.record.NodeRecord.{NodeRecord as Record}
-use Rattle.path_index.specs.RecordsByPath.{AreByPath, AreListed}
 use Rattle.path_index.proofs.records_by_path.RecordsByPath.add_all.Given as goal
 
 abbrev pub invariant-loop-index : goal.invariant-loop-index

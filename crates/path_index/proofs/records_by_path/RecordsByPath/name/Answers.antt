@@ -1,6 +1,4 @@
-use Rattle.std.proofs.Common.{◌≡◌, ◌+◌, Some, refl, take, length, sym, ap, ◌∙◌, arith}
-use Rattle.std.proofs.lemmas.List.{take_all}
-use Rattle.path_index.specs.Nodes.{node_of}
+use Rattle.path_index.proofs.Common.{◌≡◌, ◌+◌, Some, refl, take, length, sym, ap, ◌∙◌, arith, take_all, node_of}
 use Rattle.path_index.proofs.EntriesOfPaths.{AddsEntries-root, AddsEntries-next, ExtendsNodes-none, ExtendsNodes-again}
 use Rattle.path_index.proofs.NodesOfPaths.{node_of-grown, node_of-take_more, node_of-within}
 use Rattle.path_index.proofs.records_by_path.RecordsByPath.name.Goals as goal

@@ -1,6 +1,4 @@
-use Rattle.std.proofs.Common.{◌≡◌, Some, take}
-use Rattle.path_index.specs.Nodes.{node_of, ExtendsNodes}
-use Rattle.path_index.specs.RecordsByPath.{AddsEntries, IsFrontAt}
+use Rattle.path_index.proofs.Common.{◌≡◌, Some, take, node_of, ExtendsNodes, AddsEntries, IsFrontAt}
 use Rattle.path_index.proofs.records_by_path.RecordsByPath.name.Given as goal
 
 abbrev pub invariant-loop-name : goal.invariant-loop-name

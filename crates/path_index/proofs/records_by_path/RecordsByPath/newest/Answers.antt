@@ -1,6 +1,4 @@
-use Rattle.std.proofs.Common.{◌≡◌, ◌+◌, None, Some, take, refl, sym, ap, ◌∙◌}
-use Rattle.std.proofs.lemmas.List.{take_all}
-use Rattle.path_index.specs.Nodes.{node_of}
+use Rattle.path_index.proofs.Common.{◌≡◌, ◌+◌, None, Some, take, refl, sym, ap, ◌∙◌, take_all, node_of}
 use Rattle.path_index.proofs.NewestRecords.{IsNewestBelow-root, IsNewestBelow-next, IsNewestBelow-stop, IsNewestBelow-end}
 use Rattle.path_index.proofs.NodesOfPaths.{node_of-take_more}
 use Rattle.path_index.proofs.records_by_path.RecordsByPath.newest.Goals as goal

@@ -1,6 +1,4 @@
-use Rattle.std.proofs.Common.{◌≡◌, Some, take}
-use Rattle.path_index.specs.Numbers.{IsNewestBelow}
-use Rattle.path_index.specs.Nodes.{node_of}
+use Rattle.path_index.proofs.Common.{◌≡◌, Some, take, IsNewestBelow, node_of}
 use Rattle.path_index.proofs.NewestRecords.{IsCopiedAt}
 use Rattle.path_index.proofs.records_by_path.RecordsByPath.newest.Given as goal
 

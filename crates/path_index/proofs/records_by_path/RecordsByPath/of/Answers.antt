@@ -1,4 +1,4 @@
-use Rattle.std.proofs.Common.{[], refl}
+use Rattle.path_index.proofs.Common.{[], refl}
 use Rattle.path_index.proofs.records_by_path.RecordsByPath.of.Goals as goal
 
 pub returns : goal.returns

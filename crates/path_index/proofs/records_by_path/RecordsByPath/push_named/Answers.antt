@@ -1,5 +1,4 @@
-use Rattle.std.proofs.Common.{sym, ◌∙◌, append-nil}
-use Rattle.std.proofs.lemmas.Result.{on_ok_weaker}
+use Rattle.path_index.proofs.Common.{sym, ◌∙◌, append-nil, on_ok_weaker}
 use Rattle.path_index.proofs.EntriesOfPaths.{named_revisions-numbers, named_revisions-none}
 use Rattle.path_index.proofs.records_by_path.RecordsByPath.push_named.Goals as goal
 

@@ -1,4 +1,4 @@
-use Rattle.std.proofs.lemmas.Option.{get_or_from_slice_get}
+use Rattle.path_index.proofs.Common.{get_or_from_slice_get}
 use Rattle.path_index.proofs.EntriesOfPaths.{SetsPath-SetsAt}
 use Rattle.path_index.proofs.Spans.{IsSpan-newest, IsSpan-none}
 use Rattle.path_index.proofs.span.Span.up_to.Goals as goal

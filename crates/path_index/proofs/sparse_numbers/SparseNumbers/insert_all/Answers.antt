@@ -1,7 +1,4 @@
-use Rattle.std.proofs.Common.{◌≡◌, get_or, length, arith}
-use Rattle.std.proofs.lemmas.List.{get_or_default}
-use Rattle.std.proofs.lemmas.Option.{slice_get-get_or}
-use Rattle.path_index.specs.Numbers.{numbers_of}
+use Rattle.path_index.proofs.Common.{◌≡◌, get_or, length, arith, get_or_default, slice_get-get_or, numbers_of}
 use Rattle.path_index.proofs.ListsOfNodes.{AddsNumbers-next_node}
 use Rattle.path_index.proofs.sparse_numbers.SparseNumbers.insert_all.Goals as goal
 

@@ -1,4 +1,4 @@
-use Rattle.path_index.specs.Numbers.{AddsNumbers, IsMoved}
+use Rattle.path_index.proofs.Common.{AddsNumbers, IsMoved}
 use Rattle.path_index.proofs.sparse_numbers.SparseNumbers.insert_all.Given as goal
 
 abbrev pub invariant-loop-from : goal.invariant-loop-from

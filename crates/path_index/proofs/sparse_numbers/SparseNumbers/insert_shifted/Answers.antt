@@ -1,7 +1,4 @@
-use Rattle.std.proofs.Common.{refl, subst}
-use Rattle.std.proofs.lemmas.Result.{on_ok_weaker}
-use Rattle.path_index.specs.Numbers.{AddsNumbers, IsShifted}
-use Rattle.path_index.specs.SparseNumbers.{lists_by_node}
+use Rattle.path_index.proofs.Common.{refl, subst, on_ok_weaker, AddsNumbers, IsShifted, lists_by_node}
 use Rattle.path_index.proofs.PlacesOfNodes.{AddsNumbers-by_node}
 use Rattle.path_index.proofs.sparse_numbers.SparseNumbers.insert_shifted.Goals as goal
 

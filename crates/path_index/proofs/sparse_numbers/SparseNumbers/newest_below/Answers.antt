@@ -1,8 +1,4 @@
-use Rattle.std.proofs.Common.{◌≡◌, Contains, length, sym, ap, subst, ◌∙◌}
-use Rattle.std.proofs.lemmas.Bool.{ltb-true}
-use Rattle.std.proofs.lemmas.List.{get_or_default}
-use Rattle.path_index.specs.Numbers.{numbers_of, IsNewestBelow}
-use Rattle.path_index.specs.SparseNumbers.{lists_by_node, place_of}
+use Rattle.path_index.proofs.Common.{◌≡◌, Contains, length, sym, ap, subst, ◌∙◌, ltb-true, get_or_default, numbers_of, IsNewestBelow, lists_by_node, place_of}
 use Rattle.path_index.proofs.PlacesOfNodes.{numbers_of-by_node}
 use Rattle.path_index.proofs.sparse_numbers.SparseNumbers.newest_below.Goals as goal
 

@@ -1,6 +1,4 @@
-use Rattle.std.proofs.Common.{sym, subst}
-use Rattle.path_index.specs.Numbers.{HaveSameNumbers}
-use Rattle.path_index.specs.SparseNumbers.{lists_by_node}
+use Rattle.path_index.proofs.Common.{sym, subst, HaveSameNumbers, lists_by_node}
 use Rattle.path_index.proofs.PlacesOfNodes.{HaveSameNumbers-by_node}
 use Rattle.path_index.proofs.sparse_numbers.SparseNumbers.shrink_to_fit.Goals as goal
 

@@ -1,6 +1,4 @@
-use Rattle.std.proofs.Common.{ap, sym, ◌∙◌}
-use Rattle.svn_path.specs.Path.{components_of}
-use Rattle.query_answer.specs.HeldValue.{own_or_below}
+use Rattle.query_answer.proofs.Common.{ap, sym, ◌∙◌, components_of, own_or_below}
 use Rattle.query_answer.proofs.HeldRevisions.{own_or_below-empty}
 use Rattle.query_answer.proofs.held_mergeinfo.HeldMergeinfo.new.Goals.{then-is_empty, else-is_empty}
 use Rattle.query_answer.proofs.held_mergeinfo.HeldMergeinfo.new.Goals as goal

@@ -1,5 +1,4 @@
-use Rattle.std.proofs.Common.{Some, None}
-use Rattle.std.proofs.lemmas.Bool.{both_ways}
+use Rattle.query_answer.proofs.Common.{Some, None, both_ways}
 use Rattle.query_answer.proofs.Queries.{peg_value_of-cut, peg_value_of-dot, peg_value_of-uncut}
 use Rattle.query_answer.proofs.peg.Peg.read.Goals as goal
 

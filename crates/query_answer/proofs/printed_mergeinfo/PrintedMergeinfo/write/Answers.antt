@@ -1,5 +1,4 @@
-use Rattle.std.proofs.Common.{arith}
-use Rattle.std.proofs.lemmas.Grind.{common_steps}
+use Rattle.query_answer.proofs.Common.{arith, common_steps}
 use Rattle.query_answer.proofs.AnswerTexts.{value_text-lines}
 use Rattle.query_answer.proofs.printed_mergeinfo.PrintedMergeinfo.write.Goals as goal
 

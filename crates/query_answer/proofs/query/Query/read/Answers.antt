@@ -1,5 +1,4 @@
-use Rattle.std.proofs.Common.{[], ap, slice_index_or, subst, sym, ◌∙◌}
-use Rattle.query_answer.specs.Query.{HasPegOf, HasTargetOf, query_of_fields, third_field}
+use Rattle.query_answer.proofs.Common.{[], ap, slice_index_or, subst, sym, ◌∙◌, HasPegOf, HasTargetOf, query_of_fields, third_field}
 use Rattle.query_answer.proofs.Queries.{four_fields, one_field, query_of-more, three_fields, two_fields}
 use Rattle.query_answer.proofs.query.Query.read.Goals as goal
 

@@ -1,4 +1,4 @@
-use Rattle.std.proofs.Common.{is_some, ap}
+use Rattle.query_answer.proofs.Common.{is_some, ap}
 use Rattle.query_answer.proofs.AnswerTexts.{IsRepo-view}
 use Rattle.query_answer.proofs.NearestMergeinfo.{IsNearestIn-found}
 use Rattle.query_answer.proofs.PegsFound.{IsPegFound-known, IsPegRefused-known}

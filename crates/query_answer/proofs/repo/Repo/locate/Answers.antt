@@ -1,5 +1,5 @@
-use Rattle.std.proofs.Common.{◌≡◌, IfOk}
-use Rattle.path_index.specs.Index.{location_in}
+use Rattle.query_answer.proofs.Common.{◌≡◌, location_in}
+use Rattle.std.proofs.Common.{IfOk}
 use Rattle.query_answer.proofs.AnswerTexts.{IsRepo-view, IsThere-IsRepo, IsWhole-IsRepo, index-IsRepo}
 use Rattle.query_answer.proofs.repo.Repo.locate.Goals as goal
 

@@ -1,12 +1,7 @@
-use Rattle.std.proofs.Common.{◌<◌, ap, ap₂, refl, subst, ◌∙◌, arith, length}
-use Rattle.std.proofs.lemmas.Bool.{false_from_ne_true}
-use Rattle.svn_path.specs.Components.{HasDot, parts_of}
+use Rattle.query_answer.proofs.Common.{◌<◌, ap, ap₂, refl, subst, ◌∙◌, arith, length, false_from_ne_true, HasDot, parts_of, HasUnknown, Peg, peg_view, trees_in_bytes}
 use Rattle.svn_path.specs.Lookup.{IsLookup}
-use Rattle.svn_path.specs.Path.{HasUnknown}
 use Rattle.svn_path.specs.declared.path.Lookup.TheVariants.{Known}
 use Rattle.svn_path.proofs.Components.{components-parts_of}
-use Rattle.query_answer.specs.Peg.{Peg, peg_view}
-use Rattle.query_answer.specs.Repo.{trees_in_bytes}
 use Rattle.query_answer.proofs.AnswerTexts.{IsRepo-view, if_peg_exists-late, if_peg_exists-absent}
 use Rattle.query_answer.proofs.InBytes.{length-trees_in_bytes, unknown-in_bytes}
 use Rattle.query_answer.proofs.RevisionTicks.{IsEndIn-at, length-ends}

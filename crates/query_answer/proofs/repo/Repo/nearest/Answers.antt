@@ -1,13 +1,4 @@
-use Rattle.std.proofs.Common.{◌<◌, ◌≤◌, length, ap, sym, ◌∙◌, arith}
-use Rattle.svn_path.specs.Path.{same_name}
-use Rattle.svn_dump.specs.Dump.{history_view}
-use Rattle.svn_dump.specs.Tree.{trees_of}
-use Rattle.svn_dump.proofs.Revisions.{tree_of_past}
-use Rattle.block_map.specs.Map.{IsNearestOrNone, revision_in}
-use Rattle.block_map.specs.Standing.{own_mergeinfo_at}
-use Rattle.std.proofs.lemmas.Result.{IfOk-weaker}
-use Rattle.query_answer.specs.Effective.{nearest}
-use Rattle.query_answer.specs.Repo.{IsNearestIn}
+use Rattle.query_answer.proofs.Common.{◌<◌, ◌≤◌, length, ap, sym, ◌∙◌, arith, same_name, history_view, trees_of, tree_of_past, IsNearestOrNone, revision_in, own_mergeinfo_at, IfOk-weaker, nearest, IsNearestIn}
 use Rattle.query_answer.proofs.AnswerTexts.{IsRepo-view}
 use Rattle.query_answer.proofs.InBytes.{length-trees}
 use Rattle.query_answer.proofs.NearestMergeinfo.{IsNearestIn-found, nearest-no_entries}

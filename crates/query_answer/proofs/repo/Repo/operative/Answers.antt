@@ -1,6 +1,4 @@
-use Rattle.std.proofs.lemmas.Result.{IfOk-weaker}
-use Rattle.path_index.specs.Index.{AreHitsInRange}
-use Rattle.query_answer.specs.Repo.{AreHitsIn}
+use Rattle.query_answer.proofs.Common.{IfOk-weaker, AreHitsInRange, AreHitsIn}
 use Rattle.query_answer.proofs.AnswerTexts.{IsRepo-view, IsWhole-IsRepo}
 use Rattle.query_answer.proofs.PathSegments.{AreHitsIn-kept}
 use Rattle.query_answer.proofs.repo.Repo.operative.Goals as goal

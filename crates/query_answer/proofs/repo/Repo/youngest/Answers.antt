@@ -1,5 +1,4 @@
-use Rattle.std.proofs.Common.{◌≡◌, ◌<◌, List, ℕ, [], ◌∷◌, length, refl, ap, arith}
-use Rattle.svn_dump.specs.Dump.{history_in_bytes}
+use Rattle.query_answer.proofs.Common.{◌≡◌, ◌<◌, List, ℕ, [], ◌∷◌, length, refl, ap, arith, history_in_bytes}
 use Rattle.svn_dump.proofs.Histories.{length-history_in_bytes}
 use Rattle.query_answer.proofs.repo.Repo.youngest.Goals as goal
 

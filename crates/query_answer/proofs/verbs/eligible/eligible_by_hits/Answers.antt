@@ -1,7 +1,5 @@
-use Rattle.std.proofs.Common.{ℕ, [], ◌++◌, Global, Some, None, Vec, append-nil, ap, get_or, if◌then◌else◌, sym, ◌∙◌}
-use Rattle.std.specs.List.{cons_option}
-use Rattle.path_index.specs.declared.segment.Hit.{Hit}
-use Rattle.query_answer.specs.SourceHits.{eligible_by_hit, has_in}
+use Rattle.query_answer.proofs.Common.{ℕ, [], ◌++◌, Global, Some, None, append-nil, ap, get_or, if◌then◌else◌, sym, ◌∙◌, cons_option, Hit, eligible_by_hit, has_in}
+use Rattle.std.proofs.Common.{Vec}
 use Rattle.query_answer.proofs.OperativeLocations.{filter_map_more}
 use Rattle.query_answer.proofs.verbs.eligible.eligible_by_hits.Goals as goal
 use Rattle.query_answer.proofs.verbs.eligible.eligible_by_hits.Goals.{then-is_eligible+in_ok-push, else-is_eligible}

@@ -1,7 +1,4 @@
-use Rattle.std.proofs.Common.{◌≡◌, ℕ, List, Option, take}
-use Rattle.std.specs.Prelude.{filter_map}
-use Rattle.svn_path.specs.declared.names.NameId.{NameId}
-use Rattle.query_answer.specs.SourceHits.{TellsLocations, eligible_by_hit, has_in}
+use Rattle.query_answer.proofs.Common.{◌≡◌, ℕ, List, Option, take, filter_map, NameId, TellsLocations, eligible_by_hit, has_in}
 use Rattle.query_answer.proofs.verbs.eligible.eligible_by_hits.Given as goal
 
 abbrev pub invariant-loop-hit : goal.invariant-loop-hit

@@ -1,9 +1,4 @@
-use Rattle.std.proofs.Common.{◌≡◌, ap, ap₂, map, ◌∙◌}
-use Rattle.path_index.specs.Index.{location_in}
-use Rattle.query_answer.specs.Held.{held_ranges_in, held_value}
-use Rattle.query_answer.specs.Answer.{eligible_line, ok_answer}
-use Rattle.query_answer.specs.Repo.{AreHitsIn}
-use Rattle.query_answer.specs.SourceHits.{TellsLocations, eligible_by_hits, has_in, lent_ranges}
+use Rattle.query_answer.proofs.Common.{◌≡◌, ap, ap₂, map, ◌∙◌, location_in, held_ranges_in, held_value, eligible_line, ok_answer, AreHitsIn, TellsLocations, eligible_by_hits, has_in, lent_ranges}
 use Rattle.query_answer.proofs.PathSegments.{TellsLocations-AreSegmentsIn}
 use Rattle.query_answer.proofs.SourceRevisions.{eligible_by_hits-in_range, has_in-held}
 use Rattle.query_answer.proofs.verbs.eligible.eligible_revisions.Goals as goal

@@ -1,8 +1,4 @@
-use Rattle.std.proofs.Common.{◌≡◌, Some, true, not, ◌&&◌, is_none, ap, sym, ◌∙◌}
-use Rattle.path_index.specs.Segment.{same_location}
-use Rattle.svn_path.specs.Path.{same_name}
-use Rattle.query_answer.specs.Answer.{lent_path}
-use Rattle.query_answer.specs.SourceHits.{has_in, is_eligible_at, segment_path}
+use Rattle.query_answer.proofs.Common.{◌≡◌, Some, true, not, ◌&&◌, is_none, ap, sym, ◌∙◌, same_location, same_name, lent_path, has_in, is_eligible_at, segment_path}
 use Rattle.query_answer.proofs.verbs.eligible.is_eligible.Goals as goal
 
 pub returns-then-is_none : goal.returns-then-is_none

@@ -1,6 +1,4 @@
-use Rattle.std.proofs.lemmas.Result.{err_from_is_err_and}
-use Rattle.query_answer.specs.Answer.{locate_lines, ok_answer}
-use Rattle.query_answer.specs.Repo.{trees_in_bytes}
+use Rattle.query_answer.proofs.Common.{err_from_is_err_and, locate_lines, ok_answer, trees_in_bytes}
 use Rattle.query_answer.proofs.AnswerTexts.{IsAnswer-Location, HasAnswer-peg_refused}
 use Rattle.query_answer.proofs.verbs.locate.answer_locate.Goals as goal
 

@@ -1,7 +1,4 @@
-use Rattle.std.proofs.lemmas.Result.{err_from_is_err_and}
-use Rattle.svn_dump.specs.Dump.{history_in_bytes}
-use Rattle.query_answer.specs.Answer.{log_lines, ok_answer}
-use Rattle.query_answer.specs.Repo.{AreHitsIn, trees_in_bytes}
+use Rattle.query_answer.proofs.Common.{err_from_is_err_and, history_in_bytes, log_lines, ok_answer, AreHitsIn, trees_in_bytes}
 use Rattle.query_answer.proofs.AnswerTexts.{IsAnswer-Log, HasAnswer-peg_refused}
 use Rattle.query_answer.proofs.verbs.log.answer_log.Goals as goal
 

@@ -1,10 +1,4 @@
-use Rattle.std.proofs.Common.{◌≡◌, ◌++◌, ap, sym, ◌∙◌, option_map}
-use Rattle.std.specs.Prelude.{codes, decimal}
-use Rattle.std.proofs.lemmas.Grind.{common_steps}
-use Rattle.std.proofs.Common.{arith}
-use Rattle.svn_path.specs.Path.{components_of}
-use Rattle.svn_text.specs.Line.{line_text}
-use Rattle.query_answer.specs.Answer.{location_line}
+use Rattle.query_answer.proofs.Common.{◌≡◌, ◌++◌, ap, sym, ◌∙◌, option_map, codes, decimal, common_steps, arith, components_of, line_text, location_line}
 use Rattle.query_answer.proofs.AnswerTexts.{location_line-lent, path_at-in_bytes}
 use Rattle.query_answer.proofs.verbs.log.append_hit.Goals as goal
 

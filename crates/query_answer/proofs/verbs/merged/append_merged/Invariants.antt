@@ -1,7 +1,4 @@
-use Rattle.std.proofs.Common.{◌≡◌, ◌++◌, map, take}
-use Rattle.std.specs.Prelude.{flat_map}
-use Rattle.svn_text.specs.Line.{line_text}
-use Rattle.query_answer.specs.Answer.{merged_line}
+use Rattle.query_answer.proofs.Common.{◌≡◌, ◌++◌, map, take, flat_map, line_text, merged_line}
 use Rattle.query_answer.proofs.verbs.merged.append_merged.Given as goal
 
 abbrev pub invariant-loop-revision : goal.invariant-loop-revision

@@ -1,9 +1,6 @@
-use Rattle.std.proofs.Common.{[], ◌++◌, Global, Vec, append-nil, ap, get_or, sym, ◌∙◌}
-use Rattle.std.specs.List.{cons_option}
+use Rattle.query_answer.proofs.Common.{[], ◌++◌, Global, append-nil, ap, get_or, sym, ◌∙◌, cons_option, Hit, merged_revision, has_in, merged_by_hit}
+use Rattle.std.proofs.Common.{Vec}
 use Rattle.std.specs.Prelude.{option_map}
-use Rattle.path_index.specs.declared.segment.Hit.{Hit}
-use Rattle.query_answer.specs.Merged.{merged_revision}
-use Rattle.query_answer.specs.SourceHits.{has_in, merged_by_hit}
 use Rattle.query_answer.specs.declared.answers.MergedRevision.{MergedRevision}
 use Rattle.query_answer.proofs.OperativeLocations.{filter_map_more}
 use Rattle.query_answer.proofs.verbs.merged.merged_by_hits.Goals as goal

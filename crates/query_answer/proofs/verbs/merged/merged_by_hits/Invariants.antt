@@ -1,6 +1,4 @@
-use Rattle.std.proofs.Common.{◌≡◌, take}
-use Rattle.std.specs.Prelude.{filter_map}
-use Rattle.query_answer.specs.SourceHits.{has_in, merged_by_hit}
+use Rattle.query_answer.proofs.Common.{◌≡◌, take, filter_map, has_in, merged_by_hit}
 use Rattle.query_answer.proofs.verbs.merged.merged_by_hits.Given as goal
 
 abbrev pub invariant-loop-hit : goal.invariant-loop-hit

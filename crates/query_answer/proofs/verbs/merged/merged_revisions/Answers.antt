@@ -1,11 +1,4 @@
-use Rattle.std.proofs.Common.{◌≡◌, List, map, ap, sym, ◌∙◌}
-use Rattle.svn_dump.specs.Dump.{history_in_bytes}
-use Rattle.query_answer.specs.Answer.{merged_in_range, merged_line, ok_answer}
-use Rattle.svn_path.specs.Path.{components_of}
-use Rattle.query_answer.specs.Held.{held_ranges_in, held_value}
-use Rattle.query_answer.specs.HeldValue.{own_or_below}
-use Rattle.query_answer.specs.Repo.{AreHitsIn, peg_in_bytes, trees_in_bytes}
-use Rattle.query_answer.specs.SourceHits.{has_in, lent_ranges, merged_by_hits}
+use Rattle.query_answer.proofs.Common.{◌≡◌, List, map, ap, sym, ◌∙◌, history_in_bytes, merged_in_range, merged_line, ok_answer, components_of, held_ranges_in, held_value, own_or_below, AreHitsIn, peg_in_bytes, trees_in_bytes, has_in, lent_ranges, merged_by_hits}
 use Rattle.query_answer.specs.declared.answers.MergedRevision.{MergedRevision}
 use Rattle.query_answer.proofs.HeldRevisions.{own_or_below-empty}
 use Rattle.query_answer.proofs.SourceRevisions.{has_in-held, merged_by_hits-in_range, merged_in_range-empty}

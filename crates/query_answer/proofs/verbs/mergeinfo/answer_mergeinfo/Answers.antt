@@ -1,11 +1,4 @@
-use Rattle.std.proofs.Common.{sym, ap, subst, ◌∙◌, option_map}
-use Rattle.std.proofs.lemmas.Result.{err_from_is_err_and}
-use Rattle.svn_path.specs.Path.{components_of}
-use Rattle.svn_dump.specs.Tree.{tree_of}
-use Rattle.query_answer.specs.Answer.{value_answer}
-use Rattle.query_answer.specs.Effective.{effective_value, own_or_inherited}
-use Rattle.query_answer.specs.Repo.{trees_in_bytes}
-use Rattle.query_answer.specs.Unanswered.{HasAnswer}
+use Rattle.query_answer.proofs.Common.{sym, ap, subst, ◌∙◌, option_map, err_from_is_err_and, components_of, tree_of, value_answer, effective_value, own_or_inherited, trees_in_bytes, HasAnswer}
 use Rattle.query_answer.proofs.AnswerTexts.{HasAnswer-peg_refused, mergeinfo_answer-found}
 use Rattle.query_answer.proofs.EffectiveValues.{effective_in-found, mergeinfo-found, nearest_text-target}
 use Rattle.query_answer.proofs.WorkersSeen.{Reads-known, Reads-memory, Reads-peg_refused}

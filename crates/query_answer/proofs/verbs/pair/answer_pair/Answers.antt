@@ -1,5 +1,4 @@
-use Rattle.std.proofs.lemmas.Result.{err_from_is_err_and}
-use Rattle.query_answer.specs.Repo.{chosen_by}
+use Rattle.query_answer.proofs.Common.{err_from_is_err_and, chosen_by}
 use Rattle.query_answer.proofs.AnswerTexts.{HasAnswer-held, HasAnswer-mergeinfo_refused, HasAnswer-pair_refused}
 use Rattle.query_answer.proofs.EffectiveValues.{nearest_text-target}
 use Rattle.query_answer.proofs.WorkersSeen.{Reads-known, Reads-pair_refused}

@@ -1,13 +1,6 @@
-use Rattle.std.proofs.Common.{Some, refl, ap, subst, sym, ◌∙◌, option_map}
-use Rattle.std.specs.Prelude.{Err}
-use Rattle.svn_path.specs.Path.{IsPathOf, components_of}
+use Rattle.query_answer.proofs.Common.{Some, refl, ap, subst, sym, ◌∙◌, option_map, Err, IsPathOf, components_of, with_value, rest_of, own_or_below, text_found, Refused}
 use Rattle.value_memo.specs.Parsed.{parsed_view}
-use Rattle.query_answer.specs.Answer.{with_value}
-use Rattle.query_answer.specs.Held.{rest_of}
-use Rattle.query_answer.specs.HeldValue.{own_or_below}
-use Rattle.query_answer.specs.NearestValue.{text_found}
 use Rattle.query_answer.specs.declared.status.Status.TheVariants as status
-use Rattle.query_answer.specs.declared.unanswered.Unanswered.TheVariants.{Refused}
 use Rattle.query_answer.proofs.AnswerTexts.{IsAnswer-Refused}
 use Rattle.query_answer.proofs.EffectiveValues.{effective_in-below, mergeinfo-found}
 use Rattle.query_answer.proofs.PegsFound.{IsPathOf-rest}

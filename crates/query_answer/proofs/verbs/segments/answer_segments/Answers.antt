@@ -1,6 +1,4 @@
-use Rattle.std.proofs.lemmas.Result.{err_from_is_err_and}
-use Rattle.query_answer.specs.Answer.{ok_answer, segments_lines}
-use Rattle.query_answer.specs.Repo.{trees_in_bytes}
+use Rattle.query_answer.proofs.Common.{err_from_is_err_and, ok_answer, segments_lines, trees_in_bytes}
 use Rattle.query_answer.proofs.AnswerTexts.{IsAnswer-Segments, HasAnswer-peg_refused}
 use Rattle.query_answer.proofs.verbs.segments.answer_segments.Goals as goal
 

@@ -1,7 +1,4 @@
-use Rattle.std.proofs.Common.{◌≡◌, ◌++◌, arith}
-use Rattle.std.proofs.lemmas.Grind.{common_steps}
-use Rattle.svn_text.specs.Line.{line_text}
-use Rattle.query_answer.specs.Answer.{segment_in_bytes, segment_line}
+use Rattle.query_answer.proofs.Common.{◌≡◌, ◌++◌, arith, common_steps, line_text, segment_in_bytes, segment_line}
 use Rattle.query_answer.proofs.verbs.segments.append_segments.Goals as goal
 
 pub loop-segment-preserved : goal.loop-segment-preserved

@@ -1,7 +1,4 @@
-use Rattle.std.proofs.Common.{◌≡◌, ◌++◌, map, take}
-use Rattle.std.specs.Prelude.{flat_map}
-use Rattle.svn_text.specs.Line.{line_text}
-use Rattle.query_answer.specs.Answer.{segment_line, segments_in_bytes}
+use Rattle.query_answer.proofs.Common.{◌≡◌, ◌++◌, map, take, flat_map, line_text, segment_line, segments_in_bytes}
 use Rattle.query_answer.proofs.verbs.segments.append_segments.Given as goal
 
 abbrev pub invariant-loop-segment : goal.invariant-loop-segment

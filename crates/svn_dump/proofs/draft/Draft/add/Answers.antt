@@ -1,7 +1,4 @@
-use Rattle.std.proofs.Common.{sym, ap, ◌∙◌}
-use Rattle.svn_dump.specs.Dump.{history_in_bytes}
-use Rattle.svn_dump.specs.Record.{with_content}
-use Rattle.svn_dump.specs.Refusal.{first_holding, refusals_by, content_refusals}
+use Rattle.svn_dump.proofs.Common.{sym, ap, ◌∙◌, history_in_bytes, with_content, first_holding, refusals_by, content_refusals}
 use Rattle.svn_dump.proofs.Fields.{copied_some, copied_none}
 use Rattle.svn_dump.proofs.Contents.{content_said-revision, content_said-node, content_said-uuid, content_said-other}
 use Rattle.svn_dump.proofs.Growth.{GrowsTo_same}

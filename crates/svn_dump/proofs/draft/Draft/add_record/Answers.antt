@@ -1,12 +1,4 @@
-use Rattle.std.proofs.Common.{◌≡◌, ℕ, ◌-◌, ◌<◌, pred, sub-one, length, sym, ap, ◌∙◌, subst, arith}
-use Rattle.std.proofs.lemmas.List.{get_or_read}
-use Rattle.std.proofs.lemmas.Result.{err_from_is_err_and}
-use Rattle.svn_dump.specs.Draft.{dump_of}
-use Rattle.svn_dump.specs.Dump.{history_in_bytes}
-use Rattle.svn_dump.specs.Record.{record_of, with_content}
-use Rattle.svn_dump.specs.Refusal.{node_refusals}
-use Rattle.svn_dump.specs.HeaderValues.{node_of_front}
-use Rattle.svn_dump.specs.NumberedRecord.{IsFirstReason, is_record_large}
+use Rattle.svn_dump.proofs.Common.{◌≡◌, ℕ, ◌-◌, ◌<◌, pred, sub-one, length, sym, ap, ◌∙◌, subst, arith, get_or_read, err_from_is_err_and, dump_of, history_in_bytes, record_of, with_content, node_refusals, node_of_front, IsFirstReason, is_record_large}
 use Rattle.svn_dump.proofs.Drafts.{room_left, IsDraft-grows, count-le, IsDraft-with_record, with_record-told, IsWholeHistory-with_record, refused-full, refused-record}
 use Rattle.svn_dump.proofs.Grouped.{set_last_read}
 use Rattle.svn_dump.proofs.Growth.{GrowsTo-with_record}

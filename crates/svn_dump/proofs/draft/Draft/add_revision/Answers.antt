@@ -1,7 +1,4 @@
-use Rattle.std.proofs.Common.{◌≡◌, length, sym, ap, ◌∙◌, arith, rules}
-use Rattle.std.specs.Prelude.{Some}
-use Rattle.svn_text.specs.Number.{number_up_to}
-use Rattle.svn_dump.specs.Record.{with_content}
+use Rattle.svn_dump.proofs.Common.{◌≡◌, length, sym, ap, ◌∙◌, arith, rules, Some, number_up_to, with_content}
 use Rattle.svn_dump.proofs.Drafts.{not_same, IsDraft-with_revision, with_numbered-told, IsWholeHistory-with_revision, refused-number, refused-revision}
 use Rattle.svn_dump.proofs.Growth.{GrowsTo-with_revision}
 use Rattle.svn_dump.proofs.draft.Draft.add_revision.Goals as goal

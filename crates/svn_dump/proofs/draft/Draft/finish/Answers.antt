@@ -1,6 +1,4 @@
-use Rattle.std.proofs.Common.{length, sym, ap, ◌∙◌, vec_len, eq-eqb, subst}
-use Rattle.std.proofs.lemmas.Bool.{both_ways}
-use Rattle.svn_dump.specs.Draft.{IsWholeHistory}
+use Rattle.svn_dump.proofs.Common.{length, sym, ap, ◌∙◌, vec_len, eq-eqb, subst, both_ways, IsWholeHistory}
 use Rattle.svn_dump.proofs.Drafts.{IsDump-whole}
 use Rattle.svn_dump.proofs.draft.Draft.finish.Goals as goal
 

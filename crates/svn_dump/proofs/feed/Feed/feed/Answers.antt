@@ -1,4 +1,4 @@
-use Rattle.std.proofs.Common.{◌++◌, refl}
+use Rattle.svn_dump.proofs.Common.{◌++◌, refl}
 use Rattle.svn_dump.proofs.Feeds.{HasRead-more, HasReadAll-not_refused, counted-more, decided-refused}
 use Rattle.svn_dump.proofs.Readers.{IsDecidedError-more}
 use Rattle.svn_dump.proofs.Undecided.{IsUndecided-read}

@@ -1,4 +1,4 @@
-use Rattle.std.proofs.Common.{[]}
+use Rattle.svn_dump.proofs.Common.{[]}
 use Rattle.svn_dump.proofs.Undecided.{IsUndecided-read}
 use Rattle.svn_dump.proofs.feed.Feed.with_seed.Goals as goal
 

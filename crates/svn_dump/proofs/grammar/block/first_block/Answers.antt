@@ -1,4 +1,4 @@
-use Rattle.std.proofs.Common.{◌++◌, ◌∷◌, sym}
+use Rattle.svn_dump.proofs.Common.{◌++◌, ◌∷◌, sym}
 use Rattle.svn_dump.proofs.Blocks.{BeginsWithLines-append, refused-length, BeginsWithBlock-body}
 use Rattle.svn_dump.proofs.Fronts.{header_lines-empty}
 use Rattle.svn_dump.proofs.grammar.block.first_block.Goals as goal

@@ -1,5 +1,5 @@
-use Rattle.std.proofs.Common.{sym, ap, ◌++◌, ◌∷◌, ◌∙◌, Some, append_assoc}
-use Rattle.std.proofs.lemmas.Result.{err_from_is_err_and}
+use Rattle.svn_dump.proofs.Common.{sym, ap, ◌++◌, ◌∷◌, ◌∙◌, append_assoc, err_from_is_err_and}
+use Rattle.std.proofs.Common.{Some}
 use Rattle.svn_dump.proofs.Blocks.{BeginsWithLines-append, not_empty, BeginsWithLines-push, refused-no_header, refused-twice}
 use Rattle.svn_dump.proofs.grammar.block.headers_of.Goals as goal
 

@@ -1,5 +1,4 @@
-use Rattle.std.proofs.Common.{length}
-use Rattle.svn_dump.specs.FrontBlock.{BeginsWithLines}
+use Rattle.svn_dump.proofs.Common.{length, BeginsWithLines}
 use Rattle.svn_dump.proofs.grammar.block.headers_of.Given as goal
 
 abbrev pub invariant-loop-line : goal.invariant-loop-line

@@ -1,5 +1,4 @@
-use Rattle.std.proofs.Common.{◌≡◌, length}
-use Rattle.svn_dump.specs.FirstRefusal.{without_empty_lines}
+use Rattle.svn_dump.proofs.Common.{◌≡◌, length, without_empty_lines}
 use Rattle.svn_dump.proofs.grammar.block.skip_empty_lines.Given as goal
 
 abbrev pub invariant-loop-rest : goal.invariant-loop-rest

@@ -1,5 +1,4 @@
-use Rattle.std.proofs.Common.{rules}
-use Rattle.std.proofs.lemmas.Bool.{both_ways}
+use Rattle.svn_dump.proofs.Common.{rules, both_ways}
 use Rattle.svn_text.proofs.Lines.{list_any-Lacks}
 use Rattle.svn_dump.proofs.grammar.line.header_of.Goals.{in_default-via-in-Some+else-not-is_empty, in_default-via-in_default}
 use Rattle.svn_dump.proofs.grammar.line.header_of.Goals as goal

@@ -1,6 +1,5 @@
-use Rattle.std.proofs.Common.{ℕ, List}
+use Rattle.svn_dump.proofs.Common.{ℕ, List, MatchOption, Option, Some, None}
 use Rattle.std.specs.Borrow.{Bor}
-use Rattle.std.specs.Prelude.{MatchOption, Option, Some, None}
 use Rattle.svn_text.specs.Cut.{IsCutAt, Lacks}
 use Rattle.svn_text.proofs.Lines.{list_any-Lacks}
 use Rattle.svn_dump.specs.Line.{HasNoLine, IsFirstLine}

@@ -1,8 +1,4 @@
-use Rattle.std.proofs.Common.{◌≡◌, pred, ◌||◌, sym, ap, ◌∙◌, arith, eq-eqb, sub-one}
-use Rattle.std.specs.Prelude.{is_none, ◌==◌, option_map}
-use Rattle.svn_dump.specs.Refusal.{action_refusals, first_holding}
-use Rattle.svn_dump.specs.HeaderValues.{setting_from_section, node_action_view, node_action_from_headers, node_of_front, mi_text_view}
-use Rattle.std.proofs.Math.Bool.{or-true}
+use Rattle.svn_dump.proofs.Common.{◌≡◌, pred, ◌||◌, sym, ap, ◌∙◌, arith, eq-eqb, sub-one, is_none, ◌==◌, option_map, action_refusals, first_holding, setting_from_section, node_action_view, node_action_from_headers, node_of_front, mi_text_view, or-true}
 use Rattle.svn_dump.proofs.Nodes.{refused_section, refused_record, refused_action}
 use Rattle.svn_dump.proofs.grammar.node.accepted_node.Goals as goal
 use Rattle.svn_dump.proofs.grammar.node.accepted_node.Goals.{in_default-2-via-in-Some+in_default, in_default-2-via-in_default}

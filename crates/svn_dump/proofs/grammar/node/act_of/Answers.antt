@@ -1,5 +1,4 @@
-use Rattle.std.proofs.Common.{ap}
-use Rattle.svn_dump.specs.HeaderValues.{node_action_view}
+use Rattle.svn_dump.proofs.Common.{ap, node_action_view}
 use Rattle.svn_dump.proofs.Nodes.{has_dot-from}
 use Rattle.svn_dump.proofs.grammar.node.act_of.Goals as goal
 

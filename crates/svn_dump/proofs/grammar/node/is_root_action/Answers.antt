@@ -1,6 +1,4 @@
-use Rattle.std.proofs.Common.{◌&&◌, not, sym, ap, ap₂, ◌∙◌}
-use Rattle.svn_dump.specs.Node.{is_change}
-use Rattle.svn_dump.specs.HeaderValues.{node_action_view}
+use Rattle.svn_dump.proofs.Common.{◌&&◌, not, sym, ap, ap₂, ◌∙◌, is_change, node_action_view}
 use Rattle.svn_dump.proofs.Nodes.{is_root-slashes}
 use Rattle.svn_dump.proofs.grammar.node.is_root_action.Goals as goal
 

@@ -1,6 +1,4 @@
-use Rattle.std.proofs.Common.{ap, take}
-use Rattle.std.specs.Prelude.{Err}
-use Rattle.std.proofs.lemmas.Result.{err_from_is_err_and}
+use Rattle.svn_dump.proofs.Common.{ap, take, Err, err_from_is_err_and}
 use Rattle.svn_path.specs.Components.{parts_of}
 use Rattle.svn_dump.proofs.Growing.{Extends-by}
 use Rattle.svn_dump.proofs.Nodes.{path_error}

@@ -1,8 +1,4 @@
-use Rattle.std.proofs.Common.{pred}
-use Rattle.std.proofs.lemmas.Result.{err_from_is_err_and}
-use Rattle.svn_dump.specs.Record.{record_of}
-use Rattle.svn_dump.specs.HeaderValues.{node_action_view, node_of_front, mi_text_view}
-use Rattle.svn_dump.specs.NumberedRecord.{is_record_large}
+use Rattle.svn_dump.proofs.Common.{pred, err_from_is_err_and, record_of, node_action_view, node_of_front, mi_text_view, is_record_large}
 use Rattle.svn_dump.proofs.Nodes.{dotless-taken, IsFirst-path, IsFirst-action, IsRecordTold-taken}
 use Rattle.svn_dump.proofs.grammar.node.record_of.Goals as goal
 

@@ -1,7 +1,4 @@
-use Rattle.std.proofs.Common.{false, true, lt-ltb, not, refl, sym, ap, ◌∙◌, arith}
-use Rattle.std.specs.Prelude.{nat_lt}
-use Rattle.svn_dump.specs.HeaderValues.{node_action_view, node_of_front}
-use Rattle.svn_dump.specs.Refusal.{first_holding}
+use Rattle.svn_dump.proofs.Common.{false, true, lt-ltb, not, refl, sym, ap, ◌∙◌, arith, nat_lt, node_action_view, node_of_front, first_holding}
 use Rattle.svn_dump.proofs.Nodes.{against}
 use Rattle.svn_dump.proofs.grammar.node.refusal_of.Goals as goal
 

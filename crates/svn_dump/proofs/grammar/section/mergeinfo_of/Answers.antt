@@ -1,9 +1,5 @@
-use Rattle.std.proofs.Common.{◌≡◌, true, false, sym, ap, ◌∙◌, subst}
-use Rattle.std.specs.Prelude.{bytes_eq, option_map, if◌then◌else◌}
-use Rattle.std.proofs.lemmas.Bool.{not-true, not-false}
-use Rattle.svn_dump.specs.HeaderValues.{section_entry_view, mi_text_view}
-use Rattle.svn_dump.specs.History.{put}
-use Rattle.svn_dump.specs.Property.{section_end, mergeinfo_name}
+use Rattle.svn_dump.proofs.Common.{◌≡◌, true, false, sym, ap, ◌∙◌, subst, bytes_eq, option_map, not-true, not-false, section_entry_view, mi_text_view, put, section_end, mergeinfo_name}
+use Rattle.std.specs.Prelude.{if◌then◌else◌}
 use Rattle.svn_dump.proofs.EntriesRead.{length-entry}
 use Rattle.svn_dump.proofs.MiTexts.{IsFinding, IsFinding-more, IsFinding-none, found_no_entry, found_all}
 use Rattle.svn_dump.proofs.grammar.section.mergeinfo_of.Goals as goal

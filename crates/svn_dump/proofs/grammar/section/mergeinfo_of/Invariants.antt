@@ -1,5 +1,4 @@
-use Rattle.std.proofs.Common.{length}
-use Rattle.svn_dump.specs.HeaderValues.{mi_text_view}
+use Rattle.svn_dump.proofs.Common.{length, mi_text_view}
 use Rattle.svn_dump.proofs.MiTexts.{IsFinding}
 use Rattle.svn_dump.proofs.grammar.section.mergeinfo_of.Given as goal
 

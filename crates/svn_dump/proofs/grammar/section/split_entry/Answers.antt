@@ -1,5 +1,4 @@
-use Rattle.std.proofs.Common.{sym, ap, ◌∙◌}
-use Rattle.std.specs.Prelude.{option_map}
+use Rattle.svn_dump.proofs.Common.{sym, ap, ◌∙◌, option_map}
 use Rattle.svn_dump.proofs.EntriesRead.{entry_of-deleted, entry_of-valued, entry_of-whole}
 use Rattle.svn_dump.proofs.grammar.section.split_entry.Goals as goal
 

@@ -1,5 +1,4 @@
-use Rattle.std.proofs.Common.{length, ap, ◌∙◌, arith}
-use Rattle.std.specs.Prelude.{None, Some, option_map}
+use Rattle.svn_dump.proofs.Common.{length, ap, ◌∙◌, arith, None, Some, option_map}
 use Rattle.svn_dump.proofs.SectionPieces.{piece_of-cut}
 use Rattle.svn_dump.proofs.grammar.section.split_piece.Goals as goal
 

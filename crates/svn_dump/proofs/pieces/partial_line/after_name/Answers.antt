@@ -1,6 +1,4 @@
-use Rattle.std.proofs.Common.{ap, ◌∙◌, ◌∷◌, ◌++◌}
-use Rattle.svn_dump.specs.FirstRefusal.{line_refusals, magic}
-use Rattle.svn_dump.specs.Refusal.{first_holding}
+use Rattle.svn_dump.proofs.Common.{ap, ◌∙◌, ◌∷◌, ◌++◌, line_refusals, magic, first_holding}
 use Rattle.svn_dump.proofs.PartialLines.{other-version, refused-none}
 use Rattle.svn_dump.proofs.pieces.partial_line.after_name.Goals as goal
 

@@ -1,16 +1,12 @@
-use Rattle.std.proofs.Common.{◌≡◌, ◌+◌, ℕ, ◌∙◌, length, arith, ap}
-use Rattle.std.specs.List.{flat_map}
+use Rattle.svn_report.proofs.Common.{◌≡◌, ◌+◌, ℕ, ◌∙◌, length, arith, ap, flat_map, length-map, history_in_bytes, IsTextAt, lent_lines}
 use denote.Param.Send.{sendable}
 use Rattle.std.proofs.Crossing.{crosses}
-use Rattle.std.proofs.lemmas.List.{length-map}
 use Rattle.std.specs.Prelude.{slice_index_or, []}
-use Rattle.svn_dump.specs.Dump.{history_in_bytes}
 use Rattle.query_answer.specs.Answer.{answer_of, answer_text}
 use Rattle.query_answer.specs.Query.{query_of}
 use Rattle.query_answer.specs.Repo.{trees_in_bytes}
 use Rattle.query_pool.specs.Serving.{results_of}
 use Rattle.query_pool.proofs.Gathered.{gathered_each}
-use Rattle.svn_report.specs.Answering.{IsTextAt, lent_lines}
 use Rattle.svn_report.proofs.AnswerTexts.{flat_map-texts, texts_from-each}
 use Rattle.svn_report.proofs.SharedRepos.{repo_sync}
 use Rattle.value_memo.proofs.SharedMemos.{memo_sync}

@@ -1,5 +1,4 @@
-use Rattle.std.proofs.Common.{◌≡◌}
-use Rattle.std.proofs.lemmas.Result.{IfOk-weaker}
+use Rattle.svn_report.proofs.Common.{◌≡◌, IfOk-weaker}
 use Rattle.value_memo.specs.SeenValue.{nothing_seen}
 use Rattle.query_answer.specs.Worker.{IsSeenOf}
 use Rattle.query_answer.proofs.WorkersSeen.{IsSeenOf-nothing_seen}

@@ -1,4 +1,4 @@
-use Rattle.std.proofs.Common.{inr}
+use Rattle.svn_report.proofs.Common.{inr}
 use Rattle.svn_report.proofs.run_error.RunError.print.Goals as goal
 
 pub returns-in-Err : goal.returns-in-Err

@@ -1,6 +1,4 @@
-use Rattle.std.proofs.Common.{Some, sym, ap, ◌∙◌}
-use Rattle.std.proofs.lemmas.Result.{IfOk-weaker}
-use Rattle.block_map.specs.ChildMaps.{HasOne, HasSides, HasTwo, SetsChild}
+use Rattle.block_map.proofs.Common.{Some, sym, ap, ◌∙◌, IfOk-weaker, HasOne, HasSides, HasTwo, SetsChild}
 use Rattle.block_map.proofs.ChildMapLookups.{node-within, SetsChild-None, SetsChild-same, SetsChild-other, SetsChild-branch}
 use Rattle.block_map.proofs.trie.child_maps.ChildMaps.+set_bits.Goals as goal
 

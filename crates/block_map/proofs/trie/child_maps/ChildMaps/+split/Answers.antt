@@ -1,7 +1,4 @@
-use Rattle.std.proofs.Common.{refl}
-use Rattle.std.proofs.lemmas.Result.{IfOk-weaker}
-use Rattle.block_map.specs.ChildMaps.{HasSides, HasTwo}
-use Rattle.block_map.specs.declared.trie.child_map.ChildMapId.{ChildMapId}
+use Rattle.block_map.proofs.Common.{refl, IfOk-weaker, HasSides, HasTwo, ChildMapId}
 use Rattle.block_map.proofs.ChildMapLookups.{HasTwo-same_side, HasTwo-other_side}
 use Rattle.block_map.proofs.trie.child_maps.ChildMaps.+split.Goals as goal
 

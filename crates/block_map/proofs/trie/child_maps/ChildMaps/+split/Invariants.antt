@@ -1,4 +1,4 @@
-use Rattle.std.proofs.Common.{◌+◌}
+use Rattle.block_map.proofs.Common.{◌+◌}
 use Rattle.block_map.proofs.trie.child_maps.ChildMaps.+split.Given as goal
 
 abbrev pub decreases-split : goal.decreases-split

@@ -1,5 +1,4 @@
-use Rattle.std.proofs.Common.{◌≡◌, ◌≢◌, ◌-◌, map, option_map, ap, ◌∙◌, rules}
-use Rattle.std.specs.Prelude.{option_copied}
+use Rattle.block_map.proofs.Common.{◌≡◌, ◌≢◌, ◌-◌, map, option_map, ap, ◌∙◌, rules, option_copied}
 use Rattle.block_map.specs.StoredChildMaps.{child_map_of}
 use Rattle.block_map.proofs.StoredChildMaps.{child_map_at-stored, slice_get-found}
 use Rattle.block_map.proofs.trie.child_maps.ChildMaps.child_map.Goals as goal

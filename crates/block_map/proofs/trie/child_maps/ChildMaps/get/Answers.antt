@@ -1,7 +1,4 @@
-use Rattle.std.proofs.Common.{◌<◌, ◌/◌, Some, sym, ap, subst, ◌∙◌}
-use Rattle.std.proofs.lemmas.Bool.{cond-true, cond-false, eq-eqb, ne_eqb}
-use Rattle.block_map.specs.ChildMaps.{child_in}
-use Rattle.block_map.specs.declared.trie.child_map.ChildMapId.{ChildMapId}
+use Rattle.block_map.proofs.Common.{◌<◌, ◌/◌, Some, sym, ap, subst, ◌∙◌, cond-true, cond-false, eq-eqb, ne_eqb, child_in, ChildMapId}
 use Rattle.block_map.proofs.ChildMapSteps.{child_in-None, child_in-Leaf, child_in-Branch, child_map_at-before}
 use Rattle.block_map.proofs.trie.child_maps.ChildMaps.get.Goals as goal
 

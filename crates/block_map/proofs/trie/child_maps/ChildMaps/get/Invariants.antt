@@ -1,5 +1,4 @@
-use Rattle.std.proofs.Common.{◌≡◌}
-use Rattle.block_map.specs.ChildMaps.{child_in}
+use Rattle.block_map.proofs.Common.{◌≡◌, child_in}
 use Rattle.block_map.proofs.trie.child_maps.ChildMaps.get.Given as goal
 
 abbrev pub invariant-loop-left : goal.invariant-loop-left

@@ -1,6 +1,4 @@
-use Rattle.std.proofs.Common.{◌≡◌, ◌+◌, ◌++◌, ◌∷◌, [], length}
-use Rattle.block_map.specs.ChildMaps.{HasOne, HaveNodesBelow}
-use Rattle.block_map.specs.declared.trie.child_map.ChildMap.TheVariants.{Leaf}
+use Rattle.block_map.proofs.Common.{◌≡◌, ◌+◌, ◌++◌, ◌∷◌, [], length, HasOne, HaveNodesBelow, Leaf}
 use Rattle.block_map.proofs.ChildMapLookups.{Extends-push, HasOne-push, HaveNodesBelow-leaf, push-cases}
 use Rattle.block_map.proofs.Results.{IfOk-both}
 use Rattle.block_map.proofs.trie.child_maps.ChildMaps.push_leaf.Goals as goal

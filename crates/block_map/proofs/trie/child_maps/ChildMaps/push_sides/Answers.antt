@@ -1,6 +1,4 @@
-use Rattle.std.proofs.Common.{◌≡◌, ◌+◌, ◌%◌, ◌==◌, if◌then◌else◌, ◌++◌, ◌∷◌, [], length, ap, ◌∙◌}
-use Rattle.block_map.specs.ChildMaps.{HasSides, HaveNodesBelow}
-use Rattle.block_map.specs.declared.trie.child_map.ChildMap.TheVariants.{Branch}
+use Rattle.block_map.proofs.Common.{◌≡◌, ◌+◌, ◌%◌, ◌==◌, if◌then◌else◌, ◌++◌, ◌∷◌, [], length, ap, ◌∙◌, HasSides, HaveNodesBelow, Branch}
 use Rattle.block_map.proofs.ChildMapLookups.{Extends-push, HasSides-push, HaveNodesBelow-branch, push-cases}
 use Rattle.block_map.proofs.Results.{IfOk-both}
 use Rattle.block_map.proofs.trie.child_maps.ChildMaps.push_sides.Goals as goal

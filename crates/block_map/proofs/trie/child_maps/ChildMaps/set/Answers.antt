@@ -1,4 +1,4 @@
-use Rattle.block_map.specs.ChildMaps.{HaveNodesBelow}
+use Rattle.block_map.proofs.Common.{HaveNodesBelow}
 use Rattle.svn_path.proofs.Exits.{OnErr-from}
 use Rattle.block_map.proofs.Results.{OnOk-from}
 use Rattle.block_map.proofs.trie.child_maps.ChildMaps.set.Goals as goal

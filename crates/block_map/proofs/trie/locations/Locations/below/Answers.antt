@@ -1,5 +1,4 @@
-use Rattle.std.proofs.Common.{◌≡◌, ◌++◌, length, ap, arith}
-use Rattle.block_map.specs.Locations.{locations_of, path_of}
+use Rattle.block_map.proofs.Common.{◌≡◌, ◌++◌, length, ap, arith, locations_of, path_of}
 use Rattle.block_map.proofs.LocationPaths.{IsLocationBelow-stored, length-locations_of, stored_at}
 use Rattle.block_map.proofs.trie.locations.Locations.below.Goals as goal
 

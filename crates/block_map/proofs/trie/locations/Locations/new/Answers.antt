@@ -1,5 +1,4 @@
-use Rattle.std.proofs.Common.{ap}
-use Rattle.block_map.specs.Locations.{locations_of}
+use Rattle.block_map.proofs.Common.{ap, locations_of}
 use Rattle.block_map.proofs.trie.locations.Locations.new.Goals as goal
 
 pub returns : goal.returns

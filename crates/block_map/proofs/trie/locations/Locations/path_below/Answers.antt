@@ -1,6 +1,4 @@
-use Rattle.std.proofs.Common.{◌≡◌, ◌<◌, ◌++◌, not, IfSome, length, reverse, subst, sym, ap, ◌∙◌, arith}
-use Rattle.std.proofs.lemmas.Result.{IfOk-weaker}
-use Rattle.block_map.specs.Locations.{locations_of, path_above, path_of}
+use Rattle.block_map.proofs.Common.{◌≡◌, ◌<◌, ◌++◌, not, IfSome, length, reverse, subst, sym, ap, ◌∙◌, arith, IfOk-weaker, locations_of, path_above, path_of}
 use Rattle.block_map.proofs.LocationPaths.{AreCollected, AreCollected-first, AreCollected-up, length-locations_of, most_above-smaller, none_above, path_of-stored, stored_at}
 use Rattle.block_map.proofs.trie.locations.Locations.path_below.Goals as goal
 

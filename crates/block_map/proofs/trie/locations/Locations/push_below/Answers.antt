@@ -1,6 +1,4 @@
-use Rattle.std.proofs.Common.{length, subst, ap, arith}
-use Rattle.std.proofs.lemmas.Result.{on_ok_weaker}
-use Rattle.block_map.specs.Locations.{AddsBelow}
+use Rattle.block_map.proofs.Common.{length, subst, ap, arith, on_ok_weaker, AddsBelow}
 use Rattle.block_map.proofs.LocationPaths.{AddsBelow-stored, length-locations_of, stored_at}
 use Rattle.block_map.proofs.trie.locations.Locations.push_below.Goals as goal
 

@@ -1,5 +1,4 @@
-use Rattle.std.proofs.Common.{◌<◌, IfSome, length, sym, ap, subst, ◌∙◌, arith}
-use Rattle.block_map.specs.Locations.{AreAfterThoseAbove, locations_of, with_stored}
+use Rattle.block_map.proofs.Common.{◌<◌, IfSome, length, sym, ap, subst, ◌∙◌, arith, AreAfterThoseAbove, locations_of, with_stored}
 use Rattle.block_map.proofs.LocationPaths.{AreAfterThoseAbove-push, length-locations_of, locations_of-push}
 use Rattle.block_map.proofs.trie.locations.Locations.push_stored.Goals as goal
 

@@ -1,4 +1,4 @@
-use Rattle.std.proofs.Common.{length, not, ap, ◌∙◌, arith}
+use Rattle.block_map.proofs.Common.{length, not, ap, ◌∙◌, arith}
 use Rattle.block_map.proofs.LocationPaths.{at_root-stored, length-locations_of, stored_at}
 use Rattle.block_map.proofs.trie.locations.Locations.tick_at_root.Goals as goal
 

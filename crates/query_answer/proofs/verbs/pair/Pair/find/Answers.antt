@@ -1,4 +1,4 @@
-use Rattle.std.proofs.lemmas.Result.{err_from_is_err_and}
+use Rattle.query_answer.proofs.Common.{err_from_is_err_and}
 use Rattle.query_answer.proofs.AnswerTexts.{IsPairRefused-source, IsPairRefused-target, with_pair_in-found}
 use Rattle.query_answer.proofs.verbs.pair.Pair.find.Goals as goal
 

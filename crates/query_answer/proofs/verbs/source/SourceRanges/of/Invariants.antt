@@ -1,6 +1,4 @@
-use Rattle.std.proofs.Common.{◌≡◌, map, take}
-use Rattle.query_answer.specs.Held.{held_ranges_in}
-use Rattle.query_answer.specs.SourceHits.{lent_ranges}
+use Rattle.query_answer.proofs.Common.{◌≡◌, map, take, held_ranges_in, lent_ranges}
 use Rattle.query_answer.proofs.verbs.source.SourceRanges.of.Given as goal
 
 abbrev pub invariant-loop-segment : goal.invariant-loop-segment

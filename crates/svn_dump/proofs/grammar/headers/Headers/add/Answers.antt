@@ -1,7 +1,4 @@
-use Rattle.std.proofs.Common.{sym, ◌∙◌}
-use Rattle.std.specs.Prelude.{Some, option_copied}
-use Rattle.std.proofs.lemmas.List.{map-set}
-use Rattle.svn_dump.specs.Field.{field_index}
+use Rattle.svn_dump.proofs.Common.{sym, ◌∙◌, Some, option_copied, map-set, field_index}
 use Rattle.svn_dump.proofs.Fields.{AreHeaders-unlisted, AreHeaders-listed, AreHeaders-twice, copied_some, copied_none}
 use Rattle.svn_dump.proofs.grammar.headers.Headers.add.Goals as goal
 

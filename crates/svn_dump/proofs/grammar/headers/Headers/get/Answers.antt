@@ -1,6 +1,4 @@
-use Rattle.std.proofs.Common.{get_or, sym, ap, ◌∙◌}
-use Rattle.std.specs.Prelude.{None, option_copied}
-use Rattle.svn_dump.specs.Field.{field_index}
+use Rattle.svn_dump.proofs.Common.{get_or, sym, ap, ◌∙◌, None, option_copied, field_index}
 use Rattle.svn_dump.proofs.Fields.{get_or-mapped}
 use Rattle.svn_dump.proofs.grammar.headers.Headers.get.Goals as goal
 

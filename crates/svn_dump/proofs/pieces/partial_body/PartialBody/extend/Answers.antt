@@ -1,4 +1,4 @@
-use Rattle.std.proofs.Common.{take, ap, ◌∙◌, ◌++◌, ◌-◌, length}
+use Rattle.svn_dump.proofs.Common.{take, ap, ◌∙◌, ◌++◌, ◌-◌, length}
 use Rattle.svn_dump.proofs.PartialBodies.{extended}
 use Rattle.svn_dump.proofs.pieces.partial_body.PartialBody.extend.Goals as goal
 

@@ -1,7 +1,5 @@
-use Rattle.std.proofs.Common.{Some, sym, ap, ◌∙◌}
-use Rattle.svn_dump.specs.Block.{length_or_zero}
-use Rattle.svn_dump.specs.HeaderValues.{are_of_node, body_length_from_headers, field_value}
-use Rattle.svn_dump.specs.declared.grammar.field.Field.TheVariants.{PropertiesLength}
+use Rattle.svn_dump.proofs.Common.{sym, ap, ◌∙◌, length_or_zero, are_of_node, body_length_from_headers, field_value, PropertiesLength}
+use Rattle.std.proofs.Common.{Some}
 use Rattle.svn_dump.proofs.Blocks.{body_length-from_headers}
 use Rattle.svn_dump.proofs.PartialHeaders.{refused-lines_length, values-lines}
 use Rattle.svn_dump.proofs.pieces.partial_header.PartialHeader.body.Goals as goal

@@ -1,6 +1,4 @@
-use Rattle.std.proofs.Common.{◌≡◌, ◌∙◌, inl, inr, length, sym, arith}
-use Rattle.std.proofs.lemmas.Bool.{eqb-false}
-use Rattle.std.proofs.lemmas.Result.{err_from_is_err_and}
+use Rattle.svn_dump.proofs.Common.{◌≡◌, ◌∙◌, inl, inr, length, sym, arith, eqb-false, err_from_is_err_and}
 use Rattle.svn_dump.proofs.PartialHeaders.{IsDecidedFrontError-piece, IsPartialHeader-more, some-last}
 use Rattle.svn_dump.proofs.pieces.partial_header.PartialHeader.extend.Goals as goal
 use Rattle.svn_dump.proofs.pieces.partial_header.PartialHeader.extend.Goals.{else-is_empty-via-then-is_empty+else-self-len, else-is_empty-via-else-is_empty}

@@ -1,4 +1,4 @@
-use Rattle.std.proofs.Common.{◌≡◌, ◌++◌, List, ℕ, length}
+use Rattle.svn_dump.proofs.Common.{◌≡◌, ◌++◌, List, ℕ, length}
 use Rattle.svn_dump.proofs.pieces.partial_header.PartialHeader.extend.Given as goal
 
 abbrev pub invariant-loop-end : goal.invariant-loop-end

@@ -1,5 +1,4 @@
-use Rattle.std.proofs.Common.{drop, ap, ◌∙◌}
-use Rattle.std.proofs.lemmas.Result.{err_from_is_err_and}
+use Rattle.svn_dump.proofs.Common.{drop, ap, ◌∙◌, err_from_is_err_and}
 use Rattle.svn_dump.proofs.PartialHeaders.{IsPartialHeader-line, last-from, refused-name_twice, refused-no_header_line}
 use Rattle.svn_dump.proofs.pieces.partial_header.PartialHeader.names_with_last.Goals as goal
 

@@ -1,7 +1,4 @@
-use Rattle.std.proofs.Common.{[], sym, ap, ◌∙◌, append-nil}
-use Rattle.svn_dump.specs.FirstRefusal.{front_refusals}
-use Rattle.svn_dump.specs.HeaderValues.{body_length_from_headers}
-use Rattle.svn_dump.specs.Refusal.{first_holding}
+use Rattle.svn_dump.proofs.Common.{[], sym, ap, ◌∙◌, append-nil, front_refusals, body_length_from_headers, first_holding}
 use Rattle.svn_dump.proofs.PartialHeaders.{refused-front_cut, refused-front_length, values-front}
 use Rattle.svn_dump.proofs.pieces.partial_header.PartialHeader.refusal.Goals as goal
 

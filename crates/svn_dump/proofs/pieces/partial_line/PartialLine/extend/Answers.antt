@@ -1,5 +1,4 @@
-use Rattle.std.proofs.Common.{◌++◌}
-use Rattle.std.proofs.lemmas.Result.{err_from_is_err_and}
+use Rattle.svn_dump.proofs.Common.{◌++◌, err_from_is_err_and}
 use Rattle.svn_dump.proofs.PartialLines.{IsDecidedLine-piece}
 use Rattle.svn_dump.proofs.pieces.partial_line.PartialLine.extend.Goals as goal
 

@@ -1,5 +1,4 @@
-use Rattle.std.proofs.Common.{◌≡◌, ◌≤◌, ℕ, List, ◌++◌, length}
-use Rattle.svn_dump.specs.PartialLine.{IsPartialLine}
+use Rattle.svn_dump.proofs.Common.{◌≡◌, ◌≤◌, ℕ, List, ◌++◌, length, IsPartialLine}
 use Rattle.svn_dump.proofs.pieces.partial_line.PartialLine.extend.Given as goal
 
 abbrev pub invariant-loop-rest : goal.invariant-loop-rest

@@ -1,8 +1,4 @@
-use Rattle.std.proofs.Common.{◌++◌, ◌∷◌, sym, ap, ◌∙◌, append_assoc}
-use Rattle.std.proofs.lemmas.Result.{err_from_is_err_and}
-use Rattle.svn_dump.specs.Dump.{history_in_bytes}
-use Rattle.svn_dump.specs.FirstRefusal.{front_refusals}
-use Rattle.svn_dump.specs.Refusal.{first_holding}
+use Rattle.svn_dump.proofs.Common.{◌++◌, ◌∷◌, sym, ap, ◌∙◌, append_assoc, err_from_is_err_and, history_in_bytes, front_refusals, first_holding}
 use Rattle.svn_dump.proofs.PartialHeaders.{values-lines}
 use Rattle.svn_dump.proofs.WholeBlocks.{AddsBlock-whole, IsBlockRefusalFrom-whole, block_refusal-front}
 use Rattle.svn_dump.proofs.pieces.reader.Reader.add_block.Goals as goal

@@ -1,6 +1,4 @@
-use Rattle.std.proofs.Common.{subst}
-use Rattle.std.proofs.lemmas.Result.{err_from_is_err_and}
-use Rattle.svn_dump.specs.Reader.{IsIn}
+use Rattle.svn_dump.proofs.Common.{subst, err_from_is_err_and, IsIn}
 use Rattle.svn_dump.proofs.Readers.{IsRefusal-body, IsRefusal-header, IsRefusal-line}
 use Rattle.svn_dump.proofs.Readings.{IsDumpText-read, IsRefusal-end}
 use Rattle.svn_dump.proofs.pieces.reader.Reader.pause.Goals as goal

@@ -1,5 +1,4 @@
-use Rattle.std.proofs.Common.{arith}
-use Rattle.std.proofs.lemmas.Result.{err_from_is_err_and}
+use Rattle.svn_dump.proofs.Common.{arith, err_from_is_err_and}
 use Rattle.svn_dump.proofs.Growth.{GrowsTo-twice}
 use Rattle.svn_dump.proofs.Readers.{HasReadAll-piece, IsDecidedError-piece, IsReadAs-before, IsReadAs-empty, ReadsPart-piece, at_block, before_block, length-skipped}
 use Rattle.svn_dump.proofs.pieces.reader.Reader.read.Goals as goal

@@ -1,9 +1,6 @@
-use Rattle.std.proofs.Common.{◌≡◌, ◌≤◌, ◌++◌, List, ℕ, length}
-use Rattle.svn_dump.specs.Draft.{IsWholeHistory}
+use Rattle.svn_dump.proofs.Common.{◌≡◌, ◌≤◌, ◌++◌, List, ℕ, length, IsWholeHistory, HasReadAll, IsReadAs, Reader}
 use Rattle.svn_dump.specs.Growth.{GrowsTo}
-use Rattle.svn_dump.specs.Reader.{HasReadAll, IsReadAs}
 use Rattle.svn_dump.specs.declared.pieces.reader.Progress.TheVariants.{Blocks}
-use Rattle.svn_dump.specs.declared.pieces.reader.Reader.{Reader}
 use Rattle.svn_dump.proofs.pieces.reader.Reader.read.Given as goal
 
 -- the blocks so far are read, and no part is in progress

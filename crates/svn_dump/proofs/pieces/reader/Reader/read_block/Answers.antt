@@ -1,10 +1,4 @@
-use Rattle.std.proofs.Common.{subst}
-use Rattle.std.proofs.lemmas.Result.{err_from_is_err_and}
-use Rattle.svn_dump.specs.Dump.{history_in_bytes}
-use Rattle.svn_dump.specs.FrontBlock.{AddsContent}
-use Rattle.svn_dump.specs.HeaderValues.{content_from_headers}
-use Rattle.svn_dump.specs.NumberedRecord.{IsFirstReason}
-use Rattle.svn_dump.specs.Refusal.{content_refusals}
+use Rattle.svn_dump.proofs.Common.{subst, err_from_is_err_and, history_in_bytes, AddsContent, content_from_headers, IsFirstReason, content_refusals}
 use Rattle.svn_dump.specs.declared.read_error.ReadError.TheVariants as read
 use Rattle.svn_dump.proofs.Readers.{IfErr-new, IsDecidedError-here, IsReadAs-adds}
 use Rattle.svn_dump.proofs.WholeBlocks.{AddsBlock-found, IsBlockRefusalFrom-found, IsBlockRefusalFrom-front}

@@ -1,6 +1,4 @@
-use Rattle.std.proofs.Common.{refl, subst, sym, ◌++◌}
-use Rattle.std.proofs.lemmas.Result.{err_from_is_err_and}
-use Rattle.svn_dump.specs.Reader.{IsReadAs}
+use Rattle.svn_dump.proofs.Common.{refl, subst, sym, ◌++◌, err_from_is_err_and, IsReadAs}
 use Rattle.svn_dump.proofs.Readers.{HasFirstLine-to, IsBodyTo-ends, IsDecidedError-ends, IsInBody-extends, IsReadAs-ends}
 use Rattle.svn_dump.proofs.Growth.{GrowsTo_same}
 use Rattle.svn_dump.proofs.pieces.reader.Reader.read_body.Goals as goal

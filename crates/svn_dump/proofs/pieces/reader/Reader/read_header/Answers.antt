@@ -1,5 +1,4 @@
-use Rattle.std.proofs.Common.{refl}
-use Rattle.std.proofs.lemmas.Result.{err_from_is_err_and}
+use Rattle.svn_dump.proofs.Common.{refl, err_from_is_err_and}
 use Rattle.svn_dump.proofs.Readers.{IfErr-rest, IfOk-rest, IsDecidedError-header, IsDecidedError-lengths, within-rest}
 use Rattle.svn_dump.proofs.Growth.{GrowsTo_same}
 use Rattle.svn_dump.proofs.pieces.reader.Reader.read_header.Goals as goal

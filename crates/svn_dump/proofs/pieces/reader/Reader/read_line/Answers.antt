@@ -1,5 +1,4 @@
-use Rattle.std.proofs.Common.{◌++◌}
-use Rattle.std.proofs.lemmas.Result.{err_from_is_err_and}
+use Rattle.svn_dump.proofs.Common.{◌++◌, err_from_is_err_and}
 use Rattle.svn_dump.proofs.Readers.{IsDecidedError-line, ReadsPart-line}
 use Rattle.svn_dump.proofs.Growth.{GrowsTo_same}
 use Rattle.svn_dump.proofs.pieces.reader.Reader.read_line.Goals as goal

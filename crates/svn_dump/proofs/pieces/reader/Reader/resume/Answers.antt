@@ -1,4 +1,4 @@
-use Rattle.std.proofs.Common.{refl}
+use Rattle.svn_dump.proofs.Common.{refl}
 use Rattle.svn_dump.proofs.Readers.{IfErr-body}
 use Rattle.svn_dump.proofs.Growth.{GrowsTo_same}
 use Rattle.svn_dump.proofs.pieces.reader.Reader.resume.Goals as goal
