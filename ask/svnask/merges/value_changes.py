@@ -57,8 +57,8 @@ class Values:
 
     def __init__(self) -> None:
         self._lines: dict[bytes, ValueLine] = {}
-        # Those known to have a plain line for each of their paths, by their identity: long texts are slow to hash.
-        self._plain: dict[int, bytes] = {}
+        # Those known to have a plain line for each of their paths, the last ones.
+        self._plain: dict[bytes, None] = {}
         self._last = b""
         # What a path has after a revision it mostly has before the next one.
         self.whole = functools.lru_cache(RECENT)(self._whole)
@@ -66,25 +66,32 @@ class Values:
     def difference(self, before: bytes, now: bytes) -> Difference:
         """Return what a path gained and lost that has one text and then another one. `Malformed` where either is."""
         # A log mostly goes back.
-        is_back = id(before) not in self._plain
+        is_back = before not in self._plain
         known, other = (now, before) if is_back else (before, now)
         if self._is_plain(known):
             try:
                 found = difference(*differing(known, other))
-                self._plain[id(other)] = other
+                self._keep(other)
                 return Difference(found.lost, found.gained) if is_back else found
             except ValueError:
                 pass
         return difference(self.whole(before), self.whole(now))
 
     def _is_plain(self, text: bytes) -> bool:
-        is_plain = id(text) in self._plain or self._is_like_last(text)
+        is_plain = text in self._plain or self._is_like_last(text)
         if not is_plain:
             lines = self._of(text)
             is_plain = len({line.path for line in lines if line.is_plain}) == len(lines)
         if is_plain:
-            self._plain[id(text)] = self._last = text
+            self._last = text
+            self._keep(text)
         return is_plain
+
+    def _keep(self, text: bytes) -> None:
+        self._plain.pop(text, None)
+        self._plain[text] = None
+        if len(self._plain) > RECENT:
+            del self._plain[next(iter(self._plain))]
 
     def _is_like_last(self, text: bytes) -> bool:
         """Return whether a text has plain lines where it is not as the last one that has."""
