@@ -1,7 +1,8 @@
 """svnask about a repository with contents: its first question, a later one, and one after ten new revisions.
 
-Beside the first question runs what prints the log, and what prints a dump. The times are those of a clock, with the
-start of all commands. The bytes over the network are those of the loopback device, so nothing else may use it.
+Beside the first question runs what prints the log, and what prints a dump, also where the repository has fewer
+revisions. The times are those of a clock, with the start of all commands. The bytes over the network are those of the
+loopback device, so nothing else may use it.
 """
 from __future__ import annotations
 
@@ -29,6 +30,7 @@ HEADING = (
     "source | the log, s:.2f | a dump, s:.2f | first question, s:.2f | relative to the log:.2f | relative to a dump:.2f | "
     "bytes, relative to the log:.2f | peak MB of Python:.0f | later question, s:.2f | after ten revisions, s more:.2f"
 )
+LENGTHS = "revisions:,d | the log, s:.2f | a dump, s:.2f | first question, s:.2f"
 
 
 def received() -> int:
@@ -59,10 +61,15 @@ def served(folder: Path) -> Iterator[str]:
 
 
 class Source:
-    """A source of svnask, a folder or a URL, of a repository that grows."""
+    """A source of svnask, a folder or a URL, of a repository that grows. `dumping` is what dumps it."""
 
-    def __init__(self, setup: Setup, repository: Repository, left: Iterator[bytes], source: str) -> None:
-        self.setup, self.repository, self.left, self.source = setup, repository, left, source
+    def __init__(self, setup: Setup, repository: Repository, left: Iterator[bytes], url: str = "") -> None:
+        self.setup, self.repository, self.left = setup, repository, left
+        self.source, self.url = url or str(repository.folder), url or repository.url
+        self.dumping = "svnrdump" if url else "svnadmin"
+
+    def grow(self, count: int) -> None:
+        load(self.repository.folder, [first_lines(), *islice(self.left, count)])
 
     def later(self) -> Measured:
         return command(self.setup.svnask(self.source, "log", "-q", "-l", "1"))()
@@ -73,7 +80,7 @@ class Source:
 
     def grown(self) -> Measured:
         """Ask after ten new revisions."""
-        load(self.repository.folder, [first_lines(), *islice(self.left, TEN)])
+        self.grow(TEN)
         return self.later()
 
     def peak(self) -> float:
@@ -82,33 +89,44 @@ class Source:
         words = self.setup.python(ROOT / "bench" / "own_peak.py", self.source, "log", "-q", "-l", "1")
         return int(command(words)().outcome.errors.split()[-1]) * 1024 / 1e6
 
-    def row(self, name: str, url: str, dumping: str, most_of_dump: float) -> Row:
-        log = command(["svn", "log", "--xml", "-v", "-r", "0:HEAD", url])
-        runs: dict[str, Run] = {"log": log, "dump": command([dumping, "dump", "-q", self.source]), "first": self.first}
-        found = walls(runs, self.setup.times)
-        first = found["first"]
-        network: Cell = Limited(bytes_of(self.first) / bytes_of(log), MOST_BYTES) if name == "svn://" else None
-        of_log: Cell = Limited(first / found["log"], MOST_OF_LOG) if network is None else first / found["log"]
+    def log(self) -> Measured:
+        return command(["svn", "log", "--xml", "-v", "-r", "0:HEAD", self.url])()
+
+    def dump(self) -> Measured:
+        return command([self.dumping, "dump", "-q", self.source])()
+
+    def seconds(self) -> list[float]:
+        """Return what the log, a dump and the first question take."""
+        runs: dict[str, Run] = {"log": self.log, "dump": self.dump, "first": self.first}
+        return list(walls(runs, self.setup.times).values())
+
+    def row(self, name: str, seconds: list[float], most_of_dump: float) -> Row:
+        log, dump, first = seconds
+        network: Cell = Limited(bytes_of(self.first) / bytes_of(self.log), MOST_BYTES) if name == "svn://" else None
+        of_log: Cell = Limited(first / log, MOST_OF_LOG) if network is None else first / log
         peak = Limited(self.peak(), MOST_MEGABYTES)
         later = walls({"later": self.later, "grown": self.grown}, self.setup.times)
         more = Limited(later["grown"] - later["later"], MOST_MORE)
-        relative = [of_log, Limited(first / found["dump"], most_of_dump), network]
-        return [name, found["log"], found["dump"], first, *relative, peak, later["later"], more]
+        relative = [of_log, Limited(first / dump, most_of_dump), network]
+        return [name, *seconds, *relative, peak, later["later"], more]
 
 
 def measured(setup: Setup) -> Tables:
     """svnask about a repository with contents: its first question, a later one, and one after ten new revisions."""
     count = setup.scaled(REVISIONS)
     pieces = revisions(CONTENTS, count + 4 * TEN * (setup.times + 1))
-    repository = loaded(setup, "contents", islice(pieces, count + 1))
+    repository = loaded(setup, "contents", islice(pieces, count // 4 + 1))
     if repository is None:
         yield Table("svnask-repository", "source", [[ABSENT]])
         return
-    rows = [
-        Source(setup, repository, pieces, str(repository.folder)).row(
-            "folder", repository.url, "svnadmin", MOST_OF_DUMP
-        )
-    ]
+    by_folder = Source(setup, repository, pieces)
+    lengths = [(count // 4, by_folder.seconds())]
+    for length in (count // 2, count):
+        by_folder.grow(length - lengths[-1][0])
+        lengths.append((length, by_folder.seconds()))
+    yield Table("svnask-lengths", LENGTHS, [[length, *seconds] for length, seconds in lengths])
+    rows = [by_folder.row("folder", lengths[-1][1], MOST_OF_DUMP)]
     with served(repository.folder) as url:
-        rows.append(Source(setup, repository, pieces, url).row("svn://", url, "svnrdump", MOST_OF_SERVED))
+        by_network = Source(setup, repository, pieces, url)
+        rows.append(by_network.row("svn://", by_network.seconds(), MOST_OF_SERVED))
     yield Table("svnask-repository", HEADING, rows)
