@@ -3,12 +3,14 @@ from __future__ import annotations
 
 import contextlib
 import io
+import itertools
 import os
 import signal
 import sys
 import time
 from collections.abc import Iterator
 from pathlib import Path
+from random import Random
 from typing import Callable, NamedTuple, Union
 from unittest import mock
 
@@ -18,6 +20,7 @@ from dev.tree import INTEROP, SVNASK, programs
 from svnask import History
 from svnask.cli import main
 from tests.base import FolderTest, ProgramTest
+from tests.lots import check_drawn
 
 Word = Union[str, Path]
 ENDING = (signal.SIGINT, signal.SIGTERM, signal.SIGHUP)
@@ -136,6 +139,8 @@ class Case(UtcTest, ProgramTest):
     def setUp(self) -> None:
         super().setUp()
         os.environ["SVNHIST_LIVE"] = str(self.programs.svnhist_live)
+        self.histories = contextlib.ExitStack()
+        self.addCleanup(self.histories.close)
 
     def script(self, name: str, *lines: str) -> str:
         """The path of a shell script."""
@@ -143,7 +148,15 @@ class Case(UtcTest, ProgramTest):
         path.chmod(0o700)
         return str(path)
 
+    def drawn(self, count: int, draw: Callable[[Random], bytes], check: Callable[[Path], None]) -> None:
+        """Check so many dumps that are drawn, each in a file of its own."""
+        numbers = itertools.count()
+
+        def check_one(dump: bytes) -> None:
+            with self.histories:
+                check(self.made(f"drawn{next(numbers)}", dump))
+
+        check_drawn(count, draw, check_one)
+
     def history(self, dump: Path) -> History:
-        history = History.open(str(dump))
-        self.addCleanup(history.close)
-        return history
+        return self.histories.enter_context(History.open(str(dump)))

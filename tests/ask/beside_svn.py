@@ -93,14 +93,14 @@ def dump_of(number: int) -> bytes:
     sort = chance.random()
     if sort < 0.3:
         return base.content_of(chance.choice(NAMES))
-    return synchronized(number) if sort < 0.55 else drawn(number)
+    return synchronized(chance) if sort < 0.55 else drawn(chance)
 
 
 def loaded(name: str, number: int, folder: Path, server: Server | None = None) -> Place:
     """The repository of a number, of features alone where it has that name."""
     shutil.rmtree(folder / name, ignore_errors=True)
     tools = Tools(folder)
-    tools.load(folder / name, synchronized(number) if name == FEATURES else dump_of(number))
+    tools.load(folder / name, synchronized(random.Random(number)) if name == FEATURES else dump_of(number))
     repository = Repository(tools, folder / name)
     if name == FEATURES:
         trees = [["/trunk"]] * (1 + tools.youngest(folder / name))

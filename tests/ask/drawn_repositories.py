@@ -228,9 +228,8 @@ def properties_of(chance: random.Random, rev: int) -> dict[bytes, Optional[bytes
     return {name: value for name, value in found.items() if value is not None}
 
 
-def drawn(seed: int) -> bytes:
-    """The dump of a seed."""
-    chance = random.Random(seed)
+def drawn(chance: random.Random) -> bytes:
+    """A dump of up to 25 revisions."""
     trees: list[Tree] = [{}]
     revisions = [Revision(0, (), properties_of(chance, 0) if chance.random() < 0.5 else None)]
     for rev in range(1, chance.choice((8, 14, 25)) + 1):
@@ -309,9 +308,8 @@ def merge_of_features(chance: random.Random, branches: list[Feature], target: Fe
     return nodes
 
 
-def synchronized(seed: int) -> bytes:
-    """The dump of a seed, of features that take the trunk in several times and come back, and of features of these."""
-    chance = random.Random(f"features {seed}")
+def synchronized(chance: random.Random) -> bytes:
+    """A dump of features that take the trunk in several times and come back, and of features of these."""
     branches = [Feature(b"trunk", None, 1)]
     files = [added(b"trunk/" + name, FILE, text=b"new\n") for name in (b"f", b"g")]
     revisions = [Revision(0), Revision(1, [added(b"trunk"), added(b"branches"), *files], properties_of(chance, 1))]

@@ -1,6 +1,8 @@
 """`changed-tags`, beside the trees of all revisions, which the second implementation of the definitions makes."""
 from __future__ import annotations
 
+from pathlib import Path
+
 from svnask.branches.questions import AGAIN, CHANGED, DELETED, RENAMED
 
 from model import definitions as plain
@@ -46,16 +48,18 @@ def events_of(known: Plain, path: plain.Path) -> Events:
 
 
 class ChangedTags(base.Case):
+    events = 0
+
+    def check(self, dump: Path) -> None:
+        known = Plain(dump.read_bytes())
+        found: dict[bytes, Events] = {}
+        for tag in self.history(dump).changed_tags([b"/*", b"/*/*"]):
+            found.setdefault(tag.life.path, set()).update((each.rev, each.what) for each in tag.events)
+        for path in {path for tree in known.history.trees for path in tree if 1 <= len(path) <= 2}:
+            wanted = events_of(known, path)
+            self.assertEqual(found.get(plain.printed(path), set()), wanted, path)
+            self.events += len(wanted)
+
     def test_drawn_histories(self) -> None:
-        count = 0
-        for seed in range(300):
-            dump = drawn(seed)
-            known = Plain(dump)
-            found: dict[bytes, Events] = {}
-            for tag in self.history(self.made(f"dump{seed}", dump)).changed_tags([b"/*", b"/*/*"]):
-                found.setdefault(tag.life.path, set()).update((each.rev, each.what) for each in tag.events)
-            for path in {path for tree in known.history.trees for path in tree if 1 <= len(path) <= 2}:
-                wanted = events_of(known, path)
-                self.assertEqual(found.get(plain.printed(path), set()), wanted, (seed, path))
-                count += len(wanted)
-        self.assertGreater(count, 100)
+        self.drawn(300, drawn, self.check)
+        self.assertGreater(self.events, 100)

@@ -1,6 +1,8 @@
 """`contains`, beside the trees of all revisions, which the second implementation of the definitions makes."""
 from __future__ import annotations
 
+from pathlib import Path
+
 from svnask import History
 from svnask.errors import Denied
 
@@ -18,14 +20,16 @@ def how_held(held: Held, rev: int) -> str | None:
 
 
 class Contains(base.Case):
-    def check(self, name: str, dump: bytes) -> int:
-        """Compare the paths at most two deep, today and in an older revision, and return how many hold a revision."""
-        history, known = self.history(self.made(name, dump)), Plain(dump)
+    held = 0
+
+    def check(self, dump: Path) -> None:
+        """Compare the paths at most two deep, today and in an older revision."""
+        history, known = self.history(dump), Plain(dump.read_bytes())
         head = len(known.records) - 1
         self.check_peg(history, known, head // 2, head // 2)
-        return self.check_peg(history, known, head, None)
+        self.check_peg(history, known, head, None)
 
-    def check_peg(self, history: History, known: Plain, head: int, peg: int | None) -> int:
+    def check_peg(self, history: History, known: Plain, head: int, peg: int | None) -> None:
         wanted = {}
         for path in known.history.trees[head]:
             if 1 <= len(path) <= 2:
@@ -33,20 +37,18 @@ class Contains(base.Case):
                     wanted[plain.printed(path)] = known.held(plain.Place(path, head))
                 except plain.Malformed:
                     continue
-        count = 0
         for rev in range(1, head + 1):
             found = {each.path: each.how for each in history.contains(rev, [b"/*", b"/*/*"], peg)}
             for printed, held in wanted.items():
                 self.assertEqual(found.get(printed), how_held(held, rev), (history.source.name, peg, rev, printed))
-            count += len(found)
-        return count
+            self.held += len(found)
 
     def test_drawn_histories(self) -> None:
-        self.assertGreater(sum(self.check(f"dump{seed}", drawn(seed)) for seed in range(300)), 200)
+        self.drawn(300, drawn, self.check)
+        self.assertGreater(self.held, 200)
 
     def test_synchronized_features(self) -> None:
-        for seed in range(2):
-            self.check(f"features{seed}", synchronized(seed))
+        self.drawn(2, synchronized, self.check)
 
     def test_a_pattern_may_have_a_peg(self) -> None:
         """In r8 r5 was merged into /branches/two, and r10 was not made yet."""

@@ -119,23 +119,28 @@ class Exported(base.Case):
             self.assertEqual(rows(path, "SELECT path, revision FROM changed_tag ORDER BY 1, 2"), sorted(wanted), name)
 
     def test_synchronized_features(self) -> None:
-        for seed in range(3):
-            dump = self.made(f"features{seed}", synchronized(seed))
-            head = int(base.called("--json", dump, "info").output.split(b'"youngest": ')[1].split(b",")[0])
-            self.check_holders(dump, self.exported(dump, f"{seed}.db"), range(1, head + 1, 3))
+        def check(dump: Path) -> None:
+            with History.open(str(dump), is_cached=False) as history:
+                head = history.head
+            self.check_holders(dump, self.exported(dump, f"{dump.name}.db"), range(1, head + 1, 3))
+
+        self.drawn(3, synchronized, check)
 
     def test_drawn_histories(self) -> None:
         """Of each branch and tag the database says what `contains` says, also of copies and merges from elsewhere."""
-        for seed in range(300):
-            path = self.folder / f"{seed}.db"
-            with History.open(str(self.made("dump", drawn(seed))), is_cached=False) as history:
+
+        def check(dump: Path) -> None:
+            path = self.folder / f"{dump.name}.db"
+            with History.open(str(dump), is_cached=False) as history:
                 database.export(history, str(path))
                 held = holders_of_all(history, [], range(1, history.head + 1))
                 wanted = {(each.rev, database.text(each.holder.path)): each.holder.how for each in held}
                 head = history.head
             found = {(rev, name): how for rev in range(1, head + 1) for name, how in holders_in(path, rev).items()}
-            self.assertEqual(found, {place: "merged" if how == IN_PART else how for place, how in wanted.items()}, seed)
-            path.unlink()
+            self.assertEqual(found, {place: "merged" if how == IN_PART else how for place, how in wanted.items()})
+            self.assertEqual(rows(path, "PRAGMA foreign_key_check"), [])
+
+        self.drawn(300, drawn, check)
 
     def test_what_is_new_is_added(self) -> None:
         for name in base.names():
@@ -157,11 +162,6 @@ class Exported(base.Case):
             author for author, in rows(path, "SELECT DISTINCT author FROM revision WHERE author IS NOT NULL ORDER BY 1")
         ]
         self.assertEqual(authors, ["bob", "carol", "malic"])
-
-    def test_any_bytes(self) -> None:
-        for seed in range(20):
-            path = self.exported(self.made(f"dump{seed}", drawn(seed)), f"{seed}.db")
-            self.assertEqual(rows(path, "PRAGMA foreign_key_check"), [])
 
     def test_a_file_is_whole_or_as_it_was(self) -> None:
         dump = base.content_of("branches")

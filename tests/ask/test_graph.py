@@ -315,15 +315,18 @@ class Views(base.Case):
 
     def test_the_graph_until_a_revision_is_that_of_an_older_dump(self) -> None:
         patterns = [b"/trunk*", b"/b*", b"/tags/*", b"/branches/*"]
-        for seed in range(15):
-            text = drawn_dump(seed)
-            whole = self.history(self.made("whole", text))
+
+        def check(dump: Path) -> None:
+            whole = self.history(dump)
             for rev in range(1, whole.head, 3):
-                older = self.history(self.made("older", text.partition(b"Revision-number: %d\n" % (rev + 1))[0]))
+                before = dump.read_bytes().partition(b"Revision-number: %d\n" % (rev + 1))[0]
+                older = self.history(self.made(f"{dump.name}-{rev}", before))
                 # Some patterns match nothing in some of them.
                 whole.notice = older.notice = lambda text: None
                 graph = graph_of(whole, patterns, View(until=rev))._replace(view=View())
-                self.assertEqual(graph, graph_of(older, patterns), (seed, rev))
+                self.assertEqual(graph, graph_of(older, patterns), rev)
+
+        self.drawn(15, drawn_dump, check)
 
     def test_a_column_is_a_part_of_the_time(self) -> None:
         days = (1, 2, 2, 20, 21, 31)

@@ -3,9 +3,10 @@ from __future__ import annotations
 
 import json
 from collections.abc import Iterator
+from pathlib import Path
 
 from svnask import History
-from svnask.branches.heirs import Heir, heirs
+from svnask.branches.heirs import heirs
 from svnask.engine.queries import Locate
 from svnask.history.lives import Tree
 from svnask.history.targets import Target
@@ -43,7 +44,9 @@ class Paths:
 
 
 class Heirs(base.Case):
-    def check(self, paths: Paths, target: Target, rev: int) -> list[Heir]:
+    steps = 0
+
+    def check(self, paths: Paths, target: Target, rev: int) -> None:
         found = list(heirs(paths.history, target, rev))
         self.assertEqual({heir.path for heir in found}, paths.wanted(target, rev), (target, rev))
         for heir in found:
@@ -52,25 +55,23 @@ class Heirs(base.Case):
             for step in heir.way:
                 source, source_rev = step.source
                 self.assertEqual(step.is_moved, paths.ended(source, source_rev, step.rev), (heir, step))
-        return found
+            self.steps += len(heir.way)
 
-    def test_every_path_of_every_recorded_revision(self) -> None:
+    def check_dump(self, dump: Path) -> None:
+        """Check some paths of an early revision and of one in the middle."""
+        paths = Paths(self.history(dump))
+        head = paths.history.head
+        for peg in {1, head // 2}:
+            for path in paths.of(peg)[:6]:
+                self.check(paths, Target(path, peg), head)
+
+    def test_the_recorded_repositories(self) -> None:
         for name in base.names():
-            paths = Paths(self.history(base.dump_of(name)))
-            head = paths.history.head
-            for peg in {1, head // 2}:
-                for path in paths.of(peg)[:5]:
-                    self.check(paths, Target(path, peg), head)
+            self.check_dump(base.dump_of(name))
 
     def test_drawn_histories(self) -> None:
-        steps = 0
-        for seed in range(10):
-            paths = Paths(self.history(self.made(f"dump{seed}", drawn(seed))))
-            head = paths.history.head
-            for peg in {1, head // 2}:
-                for path in paths.of(peg)[:6]:
-                    steps += sum(len(heir.way) for heir in self.check(paths, Target(path, peg), head))
-        self.assertGreater(steps, 20)
+        self.drawn(30, drawn, self.check_dump)
+        self.assertGreater(self.steps, 20)
 
     def test_lines_and_objects(self) -> None:
         dump = base.dump_of("branches")

@@ -3,6 +3,7 @@ from __future__ import annotations
 
 import itertools
 import json
+from pathlib import Path
 
 from svnask.branches.gained import gained
 from svnask.errors import Denied
@@ -20,15 +21,17 @@ def target(place: plain.Place) -> Target:
 
 
 class New(base.Case):
-    def check(self, name: str, dump: bytes) -> tuple[int, int]:
-        """Compare all pairs of some paths, and return how many were compared and how many gained something."""
-        history, known = self.history(self.made(name, dump)), Plain(dump)
+    # How many pairs were compared, and of how many of them the second one has something new.
+    compared = gaining = 0
+
+    def check(self, dump: Path) -> None:
+        """Compare all pairs of some paths."""
+        history, known = self.history(dump), Plain(dump.read_bytes())
         head = len(known.records) - 1
         tops = sorted(
             (path for path in known.history.trees[head] if len(path) <= 2), key=lambda path: (len(path), path)
         )
         earlier = [plain.Place(path, head // 2) for path in known.history.trees[head // 2] if len(path) <= 1]
-        compared = gaining = 0
         for before, after in itertools.permutations([plain.Place(path, head) for path in tops[:6]] + earlier[:2], 2):
             try:
                 wanted = known.new(before, after)
@@ -37,22 +40,20 @@ class New(base.Case):
                     gained(history, target(before), target(after))
                 continue
             found = gained(history, target(before), target(after))
-            self.assertEqual([each.rev for each in found], sorted(wanted, reverse=True), (name, before, after))
-            compared, gaining = compared + 1, gaining + bool(found)
-        return compared, gaining
+            self.assertEqual([each.rev for each in found], sorted(wanted, reverse=True), (dump.name, before, after))
+            self.compared, self.gaining = self.compared + 1, self.gaining + bool(found)
 
     def test_the_recorded_repositories(self) -> None:
         for name in base.names():
-            self.check(name, base.content_of(name))
+            self.check(base.dump_of(name))
 
     def test_drawn_histories(self) -> None:
-        found = [self.check(f"dump{seed}", drawn(seed)) for seed in range(300)]
-        self.assertGreater(sum(compared for compared, _ in found), 200)
-        self.assertGreater(sum(gaining for _, gaining in found), 50)
+        self.drawn(300, drawn, self.check)
+        self.assertGreater(self.compared, 200)
+        self.assertGreater(self.gaining, 50)
 
     def test_synchronized_features(self) -> None:
-        for seed in range(4):
-            self.check(f"features{seed}", synchronized(seed))
+        self.drawn(4, synchronized, self.check)
 
 
 class Printed(base.Case):

@@ -435,10 +435,13 @@ class Web(base.Case):
             self.assertEqual(got.status, 200, address)
             self.check_page(got, address)
             self.assertIn("&lt;script&gt;", got.text)
-        for seed in range(10):
-            opened = self.opened(self.made(f"drawn{seed}", drawn(seed)))
+
+        def check(dump: Path) -> None:
+            opened = self.opened(dump)
             for address in ("/", "/revision/2", "/path/", "/checks", "/search?q=a&paths=1"):
-                self.check_page(self.got(opened, address), (seed, address))
+                self.check_page(self.got(opened, address), address)
+
+        self.drawn(10, drawn, check)
 
     def test_mutated_requests(self) -> None:
         opened = self.opened(base.dump_of("branches"))
