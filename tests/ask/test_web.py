@@ -19,7 +19,7 @@ from unittest import mock
 from urllib.parse import quote, unquote_to_bytes, urlencode
 
 from dev import running
-from dev.dumps import Dump, Revision, added, changed, copied, dump_of
+from dev.dumps import Dump, Revision, added, changed, copied, dump_of, mergeinfo
 from dev.tree import SVNASK
 from svnask.asking.parser import parsed, parser_of_verb
 from svnask.asking.words import joined_options
@@ -33,9 +33,12 @@ from tests.ask.drawn_repositories import drawn
 from tests.ask.questions import ALL
 
 if TYPE_CHECKING:
-    from svnask.web import asked, hosts, renewed, wsgi
+    from svnask.web import asked, hosts
+    from svnask.web import path as path_page
+    from svnask.web import renewed, wsgi
 else:
-    asked, hosts, renewed, wsgi = (Lazy(f"svnask.web.{name}") for name in ("asked", "hosts", "renewed", "wsgi"))
+    names = ("asked", "hosts", "path", "renewed", "wsgi")
+    asked, hosts, path_page, renewed, wsgi = (Lazy(f"svnask.web.{name}") for name in names)
 
 ADDRESS = "127.0.0.1:8080"
 LACKING = [name for name in web.NEEDED if importlib.util.find_spec(name) is None]
@@ -223,6 +226,17 @@ class Web(base.Case):
                 address = next((link for link in page.links if "before=" in link), "").partition("#")[0]
             self.assertEqual(seen, [f"r{rev}" for rev in range(130, 0, -1)] if "search" not in query else seen)
             self.assertEqual(address, "")
+
+    def test_a_page_has_a_part_of_what_was_merged(self) -> None:
+        """The rest is not looked for."""
+        changes = [[changed(b"b")] for _ in range(path_page.MOST_MERGED + 100)]
+        last = len(changes) + 2
+        merge = [changed(b"trunk", mergeinfo(b"/b:2-%d" % last))]
+        dump = self.made("dump", dump_of([added(b"trunk")], [copied(b"b", b"trunk", 1)], *changes, merge))
+        page = Reader(self.got(self.opened(dump), "/path/trunk?merged=1").text)
+        listed = [row[0] for row in page.rows if len(row) == 4 and row[0].startswith("r")]
+        self.assertEqual(listed, [f"r{rev}" for rev in range(last + 1, last + 1 - path_page.MOST_MERGED, -1)])
+        self.assertIn(f"/path/trunk?rev={last + 1}&merged=1&before={last}#log", page.links)
 
     def test_the_log_of_a_page_is_that_of_its_address(self) -> None:
         dump = base.dump_of("merges")

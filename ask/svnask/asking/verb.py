@@ -56,6 +56,10 @@ class Verb:
         """Return the same for a script, one object a line."""
         return iter(())
 
+    def objects_as_found(self, history: OpenHistory, given: Namespace) -> Iterator[Object]:
+        """Return the objects for who may need the first ones alone. What is refused may be refused after some."""
+        return self.objects(history, given)
+
     def columns_for(self, given: Namespace) -> Sequence[str]:
         """Return the columns by the options of a question."""
         return [*self.columns, *OF_LOG * (getattr(given, "log", False) and "message" not in self.columns)]

@@ -85,21 +85,20 @@ class Walker:
         # In how many revisions that were sent what is sent now was merged, for a server, which sends no other ends.
         self._depth = 0
 
-    def items(self, paths: list[bytes], first: int, last: int, limit: int) -> list[Item]:
-        """The revisions between two, with those that were merged in them."""
+    def items(self, paths: list[bytes], first: int, last: int, limit: int) -> Iterator[Item]:
+        """Yield the revisions between two, with those that were merged in them."""
         asked = Range(min(first, last), max(first, last), first >= last, limit)
         self._own = self._own_of(paths, asked)
         self._sent = set()
         self._depth = 0
         self._searched = Walked() if asked.is_falling else None
-        found: list[Item] = []
         # Walks in walks may be deeper than calls of Python.
         walks: list[Iterator[Step]] = [self._top(paths, asked)]
         begun: list[MergedPart] = []
         while walks:
             step = next(walks[-1], None)
             if isinstance(step, list):
-                found += step
+                yield from step
             elif step is not None:
                 self._check(step, begun)
                 begun.append(step)
@@ -107,7 +106,6 @@ class Walker:
             else:
                 walks.pop()
                 del begun[-1:]
-        return found
 
     def _check(self, part: MergedPart, begun: list[MergedPart]) -> None:
         if self._searched is None and part in begun:
@@ -266,20 +264,21 @@ def received(items: Iterable[Item], limit: int) -> Iterator[Item]:
         yield item
 
 
-def items_of(history: OpenHistory, target: Target, below: Sequence[bytes], options: Options) -> list[Item]:
-    """The items of a log with what was merged. A limit counts each item of several ranges, ends too. What `svn` prints of
-    a repository on the same machine has ends that a server does not send."""
+def items_of(history: OpenHistory, target: Target, below: Sequence[bytes], options: Options) -> Iterator[Item]:
+    """Yield the items of a log with what was merged, as they are found. A limit counts each item of several ranges, ends
+    too. What `svn` prints of a repository on the same machine has ends that a server does not send."""
     walker = Walker(history, options.stops_on_copy)
-    found: list[Item] = []
+    count = 0
     for part in parts(history, target, below, options):
         for walk in part.walks:
             walker.traces.add(walk)
-        limit = options.limit - len(found) if options.limit is not None else 0
+        limit = options.limit - count if options.limit is not None else 0
         if limit < 0 and history.source.root.startswith("svn"):
             # This protocol has no numbers below 0, so svnserve takes it for a large one.
             limit = 0
         items = walker.items(part.paths, part.first, part.last, limit)
-        found += received(items, limit) if history.source.is_remote and limit > 0 else items
-        if len(found) == options.limit:
+        for item in received(items, limit) if history.source.is_remote and limit > 0 else items:
+            count += 1
+            yield item
+        if count == options.limit:
             break
-    return found

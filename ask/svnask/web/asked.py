@@ -91,9 +91,9 @@ class Asked:
             return
 
     def objects(self, verb: str, *words: str) -> Iterator[Object]:
-        """Yield the objects of an answer."""
+        """Yield the objects of an answer, as they are found."""
         try:
-            yield from verb_named(verb).objects(self.history, self.given(verb, words))
+            yield from verb_named(verb).objects_as_found(self.history, self.given(verb, words))
         except Unsound:
             return
 

@@ -14,8 +14,8 @@ from svnask.web.asked import Asked
 from svnask.web.request import Request
 from svnask.web.site import Page, address
 
-# How many revisions a page of the log has, and how many names below a directory are listed.
-MOST, MOST_NAMES = 50, 1000
+# How many revisions a page of the log has, how many with those that were merged, and how many names below a directory.
+MOST, MOST_MERGED, MOST_NAMES = 50, 200, 1000
 RUN = re.compile(r"([0-9]+)(?:-([0-9]+))?(\*?)")
 
 
@@ -81,12 +81,13 @@ def page_of_log(asked: Asked, request: Request, place: Target, words: list[str])
     """Return a page of the log, with the addresses of the newest one and of the one after it."""
     pattern, has_merged = request.value("search"), "merged" in request.query
     limit = [] if pattern else [f"--limit={MOST + 1}"]
-    entries, older = page_of(asked.objects("log", *limit, *words))
+    entries, older, cut = page_of(asked.objects("log", *limit, *words))
     chosen: dict[str, str | int | None] = {"rev": place.rev, "search": pattern or None}
     chosen["merged"] = "1" if has_merged else None
     front = f"{request.root}/path{quote(place.path)}"
     return {
         "entries": entries,
+        "cut": cut,
         "has_merged": has_merged,
         "pattern": pattern,
         "older": None if older is None else address(front, **chosen, before=older),
@@ -94,16 +95,20 @@ def page_of_log(asked: Asked, request: Request, place: Target, words: list[str])
     }
 
 
-def page_of(entries: Iterable[Object]) -> tuple[list[Object], int | None]:
-    """Return the entries of a page, with those that were merged in them, and the first revision after them."""
+def page_of(entries: Iterable[Object]) -> tuple[list[Object], int | None, int | None]:
+    """Return the entries of a page, with those that were merged in them, the first revision after them, and the one of
+    which some that were merged are left out."""
     found: list[Object] = []
     count = 0
     for entry in entries:
-        count += not entry.get("merged_via")
+        via = entry.get("merged_via")
+        count += not via
         if count > MOST:
-            return found, entry["revision"]
+            return found, entry["revision"], None
+        if via and len(found) >= MOST_MERGED:
+            return found, via[0] - 1 or None, via[0]
         found.append(entry)
-    return found, None
+    return found, None, None
 
 
 def sources_in_words(asked: Asked, target: str) -> Iterator[tuple[str, str]]:

@@ -3,7 +3,7 @@ from __future__ import annotations
 
 import re
 from argparse import SUPPRESS, Action, ArgumentParser, Namespace
-from collections.abc import Iterator, Sequence
+from collections.abc import Iterable, Iterator, Sequence
 from typing import TYPE_CHECKING, Any
 
 from svnask.asking.verb import OF_CHANGE, OF_LOG, Object, Verb, object_of_revision, rows_of_changes
@@ -83,18 +83,19 @@ class LogVerb(Verb):
                 raise Denied("E200004", "Argument to --limit must be positive")
         return log.Options(ranges_of(history, given.ranges, given.changes), limit, given.stop_on_copy, given.merges)
 
-    def items(self, history: OpenHistory, given: Namespace) -> list[log.Item]:
+    def items(self, history: OpenHistory, given: Namespace) -> Iterable[log.Item]:
+        """Return the revisions of the log, those with what was merged as they are found."""
         if given.diff:
             raise Usage(NO_CONTENTS)
         target, *paths = [*filter(None, [given.target]), *given.paths, *lines_of_file(given.targets)] or [""]
         asked = target_of(history, target), paths_below(paths), self.options(history, given)
         if given.merges:
             return merged_log.items_of(history, *asked)
-        return [*map(log.Item, log.log_items(history, *asked))]
+        return map(log.Item, log.log_items(history, *asked))
 
     def text(self, history: OpenHistory, given: Namespace) -> Iterator[bytes]:
         wanted = wanted_of(given)
-        items = self.items(history, given)
+        items = [*self.items(history, given)]
         if given.xml and given.verbose:
             history.find_kinds(rev for item in items for rev in (*item.left_out, item.rev) if rev >= 0)
         return printed_log(history, items, wanted, self.form(given))
@@ -107,10 +108,11 @@ class LogVerb(Verb):
         if given.xml:
             raise Usage("--xml prints no objects: it is not taken with --json or --csv")
         wanted = wanted_of(given)
-        for entry in log_entries(history, self.items(history, given), wanted, PlainForm(given.quiet)):
-            if entry is not None:
-                merged = {"merged_via": list(entry.via), "is_reverse": entry.is_reverse} if given.merges else {}
-                yield {**object_of_revision(history, entry.revision.number), **merged}
+        # All is checked before anything is printed.
+        return objects_of(history, given, wanted, [*self.items(history, given)])
+
+    def objects_as_found(self, history: OpenHistory, given: Namespace) -> Iterator[Object]:
+        return objects_of(history, given, wanted_of(given), self.items(history, given))
 
     def columns_for(self, given: Namespace) -> Sequence[str]:
         merged = ("merged_via", "is_reverse") if given.merges else ()
@@ -120,6 +122,14 @@ class LogVerb(Verb):
         """Return a row for each revision, or with `-v` for each changed path."""
         found = self.objects(history, given)
         return rows_of_changes(found) if given.verbose else found
+
+
+def objects_of(history: OpenHistory, given: Namespace, wanted: Wanted, items: Iterable[log.Item]) -> Iterator[Object]:
+    """Yield the objects of revisions."""
+    for entry in log_entries(history, items, wanted, PlainForm(given.quiet)):
+        if entry is not None:
+            merged = {"merged_via": list(entry.via), "is_reverse": entry.is_reverse} if given.merges else {}
+            yield {**object_of_revision(history, entry.revision.number), **merged}
 
 
 def lines_of_file(name: str | None) -> list[str]:
