@@ -2,12 +2,20 @@
 from __future__ import annotations
 
 import json
+from pathlib import Path
+from unittest import mock
 
 from dev.dumps import DIR, FILE, Node, added, changed, copied, dump_of, mergeinfo
+from svnask.history.targets import Target
+from svnask.log.selection import Options
+from svnask.merged_log import selection
 from svnask.merged_log.parts import MergedPart, hash_of, in_hash_order, parts_of_mergeinfo
-from svnask.merged_log.selection import Walked, Walker
+from svnask.merged_log.selection import Walked, Walker, items_of
 from svnask.merges.value_changes import PathRanges
 from tests.ask import base
+from tests.ask.drawn_repositories import synchronized
+
+TRUNK, ALL = Target(b"/trunk", 29), Options()
 
 
 def setting(path: bytes, value: bytes) -> Node:
@@ -94,6 +102,15 @@ class MergedLog(base.Case):
         walker.traces.find((b"/b/%d" % number, 1500) for number in range(1500))
         items = list(walker.items([b"/b/1499"], history.head, 0, 0))
         self.assertEqual(len([item for item in items if item.rev < 0]), 1498)
+
+    def test_merges_are_looked_up_for_any_number_of_revisions_at_once(self) -> None:
+        def check(dump: Path) -> None:
+            history = self.history(dump)
+            whole, one_by_one = list(items_of(history, TRUNK, [], ALL)), items_of(history, TRUNK, [], ALL)
+            with mock.patch.object(selection, "AT_ONCE", 1):
+                self.assertEqual(list(one_by_one), whole)
+
+        self.drawn(5, synchronized, check)
 
     def test_what_svn_does_not_end_with_is_refused(self) -> None:
         dump = self.made(

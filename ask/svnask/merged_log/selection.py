@@ -24,6 +24,8 @@ from svnask.texts import decoded
 
 END = Item(-1)
 NO_RUN = 0, -1
+# For how many revisions it is looked up at once what was merged in them.
+AT_ONCE = 256
 # What a walk gives: some items, or a part that is walked before it goes on.
 Step = Union[list[Item], MergedPart]
 
@@ -145,17 +147,16 @@ class Walker:
         # With several ranges, the limit of the later ones may be below 0: then they have one revision each.
         most = max(asked.limit, 1) if asked.limit else len(revisions)
         revisions = revisions[:most] if asked.is_falling else revisions[::-1][:most]
-        merged = self._merged(cuts, revisions)
         items: list[Item] = []
-        for rev in revisions:
+        for rev, merged in self._with_merged(cuts, revisions):
             # A server lists the paths of those that were left out before with this one, too.
-            items.append(Item(rev, rev in merged, left_out=tuple(self._left_out)))
+            items.append(Item(rev, merged is not None, left_out=tuple(self._left_out)))
             self._left_out.clear()
-            if rev in merged:
+            if merged is not None:
                 self._depth += 1
                 yield items
                 items = []
-                yield from self._below(merged[rev])
+                yield from self._below(merged)
         yield items
 
     def _walk(self, part: MergedPart) -> Iterator[Step]:
@@ -165,21 +166,27 @@ class Walker:
             known(self._history, high)
         cuts = self._cuts(paths, high)
         revisions = falling(cuts, low, high)
-        merged = self._merged(cuts, revisions)
         is_apart = all(self._is_apart(cut, low) for cut in cuts)
         items: list[Item] = []
-        for rev in revisions:
+        for rev, merged in self._with_merged(cuts, revisions):
             if self._is_sent(rev, is_apart):
-                items.append(Item(rev, rev in merged, part.is_reverse, tuple(self._left_out)))
+                items.append(Item(rev, merged is not None, part.is_reverse, tuple(self._left_out)))
                 self._left_out.clear()
-                self._depth += rev in merged
+                self._depth += merged is not None
             else:
                 self._left_out.append(rev)
-            if rev in merged:
+            if merged is not None:
                 yield items
                 items = []
-                yield from self._below(merged[rev])
+                yield from self._below(merged)
         yield items
+
+    def _with_merged(self, cuts: list[Cut], revisions: list[int]) -> Iterator[tuple[int, list[MergedPart] | None]]:
+        """Yield revisions, each with what was merged in it, if anything was."""
+        for begin in range(0, len(revisions), AT_ONCE):
+            some = revisions[begin : begin + AT_ONCE]
+            merged = self._merged(cuts, some)
+            yield from ((rev, merged.get(rev)) for rev in some)
 
     def _merged(self, cuts: list[Cut], revisions: list[int]) -> dict[int, list[MergedPart]]:
         """Return what was merged in each of some revisions, if anything was. It is looked up where each path goes on
