@@ -589,7 +589,7 @@ class Web(base.Case):
             self.assertEqual(base.called(dump, "web", "--listen", text).status, 2, text)
         self.assertEqual(base.called("-", "web").status, 2)
         with mock.patch.object(web, "server") as server:
-            server.serve.side_effect = ModuleNotFoundError("no", name="waitress")
+            server.serve_pages.side_effect = ModuleNotFoundError("no", name="waitress")
             done = base.called(dump, "web")
         self.assertEqual((done.status, done.said), (3, f"svnask: {web.LACKING}\n"))
 

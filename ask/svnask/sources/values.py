@@ -32,7 +32,7 @@ class WantedValues(NamedTuple):
     folder: bytes | None = None
 
 
-class Asked(ABC):
+class SvnPropget(ABC):
     """A process of svn that is asked for values. It asks the user nothing, since several run at once."""
 
     def __init__(self, words: Sequence[str], targets: Sequence[str], is_alone: bool = False) -> None:
@@ -46,7 +46,7 @@ class Asked(ABC):
         self._output.close()
 
     @abstractmethod
-    def alone(self) -> Asked:
+    def alone(self) -> SvnPropget:
         """Ask the same once more."""
 
     @abstractmethod
@@ -68,10 +68,10 @@ class Asked(ABC):
                 yield from again.values()
 
 
-class OfTargets(Asked):
+class OfTargets(SvnPropget):
     """Asks about paths of any revisions."""
 
-    def alone(self) -> Asked:
+    def alone(self) -> SvnPropget:
         return OfTargets(self._words, self._targets, is_alone=True)
 
     def found(self) -> Iterator[bytes | None]:
@@ -94,14 +94,14 @@ class OfTargets(Asked):
             raise Failed("what svn prints cannot be written")
 
 
-class OfFolder(Asked):
+class OfFolder(SvnPropget):
     """Asks about all that is in a folder."""
 
     def __init__(self, words: Sequence[str], root: str, wanted: WantedValues, is_alone: bool = False) -> None:
         super().__init__(("-R", *words), [target(root, wanted.folder or b"/", wanted.rev)], is_alone)
         self._root, self._wanted = root, wanted
 
-    def alone(self) -> Asked:
+    def alone(self) -> SvnPropget:
         return OfFolder(self._words[1:], self._root, self._wanted, is_alone=True)
 
     def found(self) -> Iterator[bytes | None]:
@@ -120,10 +120,10 @@ class MergeinfoValues:
         count = sum(len(each.paths) for each in wanted if each.folder is None)
         self._most = min(max(count // PROCESSES, FEWEST), MOST)
         self._left = self._parts(wanted)
-        self._running: deque[Asked] = deque()
+        self._running: deque[SvnPropget] = deque()
         self._start()
 
-    def _parts(self, wanted: Iterable[WantedValues]) -> Iterator[Asked]:
+    def _parts(self, wanted: Iterable[WantedValues]) -> Iterator[SvnPropget]:
         """Start a process for each folder, and one for as many other paths as a command takes."""
         part: list[str] = []
         length = 0

@@ -54,7 +54,7 @@ def rows_of(asked: Asked) -> list[Object] | None:
     return asked.kept("counted", lambda about: list(about.objects(*TABLE))) or plain
 
 
-class Picture(NamedTuple):
+class ShownPicture(NamedTuple):
     """A picture, how high one is that leaves nothing out of it, and the graph of all."""
 
     svg: Markup
@@ -87,12 +87,14 @@ def trunk_in(rows: list[Object]) -> str | None:
     return next((row["path"] for row in rows if row["kind"] == "trunk" and row["is_alive"]), None)
 
 
-def picture_of(asked: Asked, words: list[str], root: str) -> Picture | None:
+def picture_of(asked: Asked, words: list[str], root: str) -> ShownPicture | None:
     """Return the picture by some options, whose marks link to pages."""
     return asked.kept(f"{root} {words}", lambda about: drawn(about, words, root))
 
 
-def drawn(asked: Asked, words: list[str], root: str) -> Picture:
+def drawn(asked: Asked, words: list[str], root: str) -> ShownPicture:
     whole, fitted = drawn_of(asked.history, [], asked.given(words[0], words[1:], is_json=False))
     pieces = svg_of(asked.history, fitted, OwnLinks(root), has_style=False)
-    return Picture(Markup(b"".join(pieces).decode("utf-8")), None if fitted.left is None else fitted.left.height, whole)
+    return ShownPicture(
+        Markup(b"".join(pieces).decode("utf-8")), None if fitted.left is None else fitted.left.height, whole
+    )

@@ -34,7 +34,7 @@ def revision(asked: Asked, request: Request) -> Page:
     rev = found["revision"]
     # The picture of all is that of the first page.
     picture = picture_of(asked, ["graph"], request.root)
-    here, there = ([], []) if picture is None else arrows_of(picture.whole, rev)
+    here, there = ([], []) if picture is None else merges_at(picture.whole, rev)
     values = {
         "rev": rev,
         "found": found,
@@ -49,7 +49,7 @@ def revision(asked: Asked, request: Request) -> Page:
     return Page("revision.html", f"r{rev}", commands, addresses, values)
 
 
-def arrows_of(graph: Graph, rev: int) -> tuple[list[Arrow], list[Arrow]]:
+def merges_at(graph: Graph, rev: int) -> tuple[list[Arrow], list[Arrow]]:
     """Return what was merged in a revision, but for what another merge carried along, and where it was merged."""
     here = [arrow_of(graph, each) for each in graph.merges if each.rev == rev and not each.is_carried]
     return here, [arrow_of(graph, each) for each in graph.merges if has_merged(each, rev)]

@@ -34,7 +34,7 @@ def listened(text: str | None) -> tuple[str, int]:
     return host.strip("[]") or HOST, int(port)
 
 
-def serve(given: argparse.Namespace) -> None:
+def serve_pages(given: argparse.Namespace) -> None:
     """Answer until a signal comes."""
     host, port = listened(given.listen)
     if given.dump == "-":

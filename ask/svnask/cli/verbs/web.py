@@ -28,7 +28,7 @@ class WebVerb(Verb):
 
     def run(self, given: Namespace) -> int:
         try:
-            server.serve(given)
+            server.serve_pages(given)
         except ModuleNotFoundError as error:
             if error.name not in NEEDED:
                 raise
