@@ -32,24 +32,35 @@ def is_copy_alone(changes: list[Change]) -> bool:
     )
 
 
+class Looked(NamedTuple):
+    """The sets of the revisions that were looked at, and of those of them that bring something."""
+
+    known: int
+    found: int
+
+
 class Bringing:
-    """Tells of revisions whether they bring something of their own. Each is looked at once."""
+    """Tells of revisions whether they bring something of their own. Each is looked at once for all questions."""
 
     def __init__(self, history: OpenHistory) -> None:
         self._history = history
         self._values = Values()
-        # The sets of the revisions that were looked at, and of those of them that bring something. One that made and
-        # unmade no path and changed no mergeinfo does.
-        others = mask_of_revisions(history.tree.revisions.union(history.explicit.settings))
-        self._known = self._found = mask_between(1, max(history.head, 0)) & ~others
+        self._memo: dict[str, Looked] = history.memo("bringing")
+        if not self._memo:
+            # One that made and unmade no path and changed no mergeinfo brings something.
+            others = mask_of_revisions(history.tree.revisions.union(history.explicit.settings))
+            plain = mask_between(1, max(history.head, 0)) & ~others
+            self._memo["looked"] = Looked(plain, plain)
 
     def among(self, asked: int) -> int:
         """Return the set of those that bring something."""
-        new = asked & ~self._known & ~1
+        new = asked & ~self._memo["looked"].known & ~1
         if new:
-            self._known |= new
-            self._found |= mask_of_revisions(self._bringing(members_of(new)))
-        return asked & self._found
+            more = mask_of_revisions(self._bringing(members_of(new)))
+            # Another thread may have looked at others meanwhile.
+            known, found = self._memo["looked"]
+            self._memo["looked"] = Looked(known | new, found | more)
+        return asked & self._memo["looked"].found
 
     def _bringing(self, asked: Iterable[int]) -> set[int]:
         """Return those that bring something, by their records."""
