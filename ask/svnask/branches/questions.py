@@ -295,7 +295,7 @@ def unmerged(history: OpenHistory, patterns: Sequence[bytes], into: Target | Non
     replies = history.ask(itertools.chain.from_iterable(asked.values()))
     for source, target in sources.items():
         answers = Answers(zip(asked[source], replies))
-        revisions = merges.shown(source, target, question, answers)
+        revisions = [*merges.shown(source, target, question, answers)]
         yield Compared(Left(source.path, revisions), source, target, answers)
 
 

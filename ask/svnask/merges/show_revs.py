@@ -279,16 +279,16 @@ class ShownMerges:
 
     def shown(
         self, source: Target, target: Target, question: Question, about_source: Answers | None = None
-    ) -> list[tuple[int, bool]]:
-        """The revisions of a source, with whether a star follows. The answers to the queries of the pair may be given by
-        themselves."""
+    ) -> Iterator[tuple[int, bool]]:
+        """The revisions of a source, with whether a star follows, as they are found. The answers to the queries of the
+        pair may be given by themselves."""
         history, answers = self._history, self._answers if about_source is None else about_source
         is_merged = question.verb == "merged"
         own = located(segments_of(history, self._answers, target), (1, target.rev))
         catalog = self._catalog(target, question.is_recursive)
         if not catalog.entries:
             if is_merged:
-                return []
+                return iter(())
             catalog.entries[target.path] = Lines({}, {}, [])
         # As for svn, a range comes before whether the source exists.
         bounds = bounds_of(source, question)
@@ -301,15 +301,9 @@ class ShownMerges:
         same = set().union(*shared(own, listed).values())
         found = as_answered(answers, source, target, question, sort_out(catalog, listed), same)
         chosen = found.whole | found.partial if is_merged else set().union(*listed.values()) - found.whole
-        coverage = Coverage(history, catalog, there)
-        shown = []
-        for rev in sorted(chosen & set().union(*listed.values())):
-            starred = rev in found.partial
-            covered = (starred or not is_merged) and coverage.is_covered(rev)
-            if covered and not is_merged:
-                continue
-            shown.append((rev, starred and not covered))
-        return shown[::-1] if question.range and question.range[0] > question.range[1] else shown
+        is_falling = question.range is not None and question.range[0] > question.range[1]
+        revisions = sorted(chosen & set().union(*listed.values()), reverse=is_falling)
+        return starred(revisions, found.partial, Coverage(history, catalog, there), is_merged)
 
     def has_none(self, target: Target, is_recursive: bool) -> bool:
         """Return whether a target that is there has no mergeinfo, so that nothing was merged from wherever."""
@@ -355,6 +349,18 @@ class ShownMerges:
         return None
 
 
-def show_revs_text(shown: list[tuple[int, bool]]) -> Iterator[bytes]:
-    for rev, starred in shown:
-        yield b"r%d%s\n" % (rev, b"*" if starred else b"")
+def starred(
+    revisions: Iterable[int], partial: set[int], coverage: Coverage, is_merged: bool
+) -> Iterator[tuple[int, bool]]:
+    """Yield merged or eligible revisions, but for eligible ones that are covered. A star follows those that are merged
+    in part."""
+    for rev in revisions:
+        is_partial = rev in partial
+        is_covered = (is_partial or not is_merged) and coverage.is_covered(rev)
+        if is_merged or not is_covered:
+            yield rev, is_partial and not is_covered
+
+
+def show_revs_text(shown: Iterable[tuple[int, bool]]) -> Iterator[bytes]:
+    for rev, has_star in shown:
+        yield b"r%d%s\n" % (rev, b"*" if has_star else b"")

@@ -2,7 +2,7 @@
 from __future__ import annotations
 
 from argparse import ArgumentParser, Namespace
-from collections.abc import Iterator, Sequence
+from collections.abc import Callable, Iterable, Iterator, Sequence
 
 from svnask.asking.verb import OF_LOG, Object, Verb, object_of_place, object_of_revision
 from svnask.engine.queries import Mergeinfo
@@ -74,7 +74,8 @@ class MergeinfoVerb(Verb):
             raise log.not_found(history, target, target.rev)
         return answer.value
 
-    def revisions(self, history: OpenHistory, given: Namespace) -> list[tuple[int, bool]]:
+    def revisions(self, history: OpenHistory, given: Namespace) -> Iterator[tuple[int, bool]]:
+        """Return the revisions, with whether a star follows, as they are found."""
         bounds = range_of(history, given.ranges[0]) if given.ranges else None
         target = target_of(history, given.target)
         source = place_of(history, given.source)
@@ -86,7 +87,7 @@ class MergeinfoVerb(Verb):
             # Without mergeinfo of the target `svn` does not look at the source.
             answers = history.answers(mergeinfo.queries_about(explicit, target, question))
             if mergeinfo.ShownMerges(history, explicit, answers).has_none(target, question.is_recursive):
-                return []
+                return iter(())
         known(history, source.rev)
         answers = history.answers(mergeinfo.queries_of_question(explicit, source, target, question))
         return mergeinfo.ShownMerges(history, explicit, answers).shown(source, target, question)
@@ -104,7 +105,7 @@ class MergeinfoVerb(Verb):
         if given.log:
             return self.log(history, given)
         if given.show_revs:
-            return mergeinfo.show_revs_text(self.revisions(history, given))
+            return mergeinfo.show_revs_text([*self.revisions(history, given)])
         if given.target is not None:
             return diagram.diagram_text(self.summary(history, given))
         return (b"%s:%s\n" % (path, ranges.encode("ascii")) for path, ranges in self.value(history, given).items())
@@ -115,11 +116,23 @@ class MergeinfoVerb(Verb):
         return self.columns if given.target is None else OF_SUMMARY
 
     def objects(self, history: OpenHistory, given: Namespace) -> Iterator[Object]:
+        # All revisions are found before anything is printed.
+        return self._objects(history, given, list)
+
+    def objects_as_found(self, history: OpenHistory, given: Namespace) -> Iterator[Object]:
+        return self._objects(history, given, iter)
+
+    def _objects(
+        self,
+        history: OpenHistory,
+        given: Namespace,
+        taken: Callable[[Iterator[tuple[int, bool]]], Iterable[tuple[int, bool]]],
+    ) -> Iterator[Object]:
         self.judge(given)
         if given.show_revs:
-            for rev, starred in self.revisions(history, given):
+            for rev, has_star in taken(self.revisions(history, given)):
                 found = object_of_revision(history, rev) if given.log else {"revision": rev}
-                yield {**found, "partial": starred}
+                yield {**found, "partial": has_star}
         elif given.target is not None:
             yield object_of_summary(self.summary(history, given))
         else:
