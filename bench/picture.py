@@ -4,8 +4,8 @@ It needs matplotlib (Debian: python3-matplotlib). The same table gives the same 
 """
 from __future__ import annotations
 
+import argparse
 import re
-import sys
 from pathlib import Path
 
 import matplotlib
@@ -32,8 +32,12 @@ def draw(found: dict[str, list[float]], path: Path) -> None:
 
 
 def main() -> None:
-    name, page, picture = sys.argv[1:]
-    draw(columns(Path(page).read_text(encoding="utf-8"), name), Path(picture))
+    words = argparse.ArgumentParser(description="Draws a table of a page as lines, each against the first column.")
+    words.add_argument("table")
+    words.add_argument("page", type=Path)
+    words.add_argument("picture", type=Path)
+    given = words.parse_args()
+    draw(columns(given.page.read_text(encoding="utf-8"), given.table), given.picture)
 
 
 if __name__ == "__main__":
