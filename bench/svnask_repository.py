@@ -30,7 +30,7 @@ HEADING = (
     "source | the log, s:.2f | a dump, s:.2f | first question, s:.2f | relative to the log:.2f | relative to a dump:.2f | "
     "bytes, relative to the log:.2f | peak MB of Python:.0f | later question, s:.2f | after ten revisions, s more:.2f"
 )
-LENGTHS = "revisions:,d | the log, s:.2f | a dump, s:.2f | first question, s:.2f"
+LENGTHS = "revisions:,d | svn log, s:.2f | svnadmin dump, s:.2f | svnask, first question, s:.2f"
 
 
 def received() -> int:
