@@ -81,17 +81,18 @@ class BranchPair:
         return of_source, of_target
 
     def _last_merged(self, source: Target, target: Target, ancestor: Target) -> Target:
-        merged = self._shown("merged", source, target, (source.rev, ancestor.rev))
-        if not merged:
+        merged = self._first("merged", source, target, (source.rev, ancestor.rev))
+        if merged is None:
             return ancestor
-        left = self._shown("eligible", source, target, (ancestor.rev, merged[0]))
-        rev = left[0] - 1 if left else merged[0]
+        left = self._first("eligible", source, target, (ancestor.rev, merged))
+        rev = merged if left is None else left - 1
         path = next((path for low, high, path in self._places[source] if low <= rev <= high), source.path)
         return Target(path, rev)
 
-    def _shown(self, verb: str, source: Target, target: Target, bounds: tuple[int, int]) -> list[int]:
+    def _first(self, verb: str, source: Target, target: Target, bounds: tuple[int, int]) -> int | None:
+        """Return the first revision that is listed."""
         question = mergeinfo.Question(verb, True, bounds)
-        return [rev for rev, _ in self._merges.shown(source, target, question)]
+        return next((rev for rev, _ in self._merges.shown(source, target, question)), None)
 
 
 def summary(history: OpenHistory, source: Target, target: Target) -> Summary:
