@@ -26,6 +26,7 @@ A = TypeVar("A", bound="Answer")
 A_co = TypeVar("A_co", bound="Answer", covariant=True)
 # A line of an answer to `log`.
 LOGGED = re.compile(rb"r([0-9]+) [^\n]*\n?")
+PARTIAL = re.compile(rb"([0-9]+)\*")
 # So few bytes are read line by line.
 SHORT = 100
 # What makes JSON of the numbers of a log, and the bytes that are left out then.
@@ -134,6 +135,16 @@ class Merges(Answer):
     @property
     def revisions(self) -> list[Merge]:
         return [Merge(int(line[1:].rstrip(b"*")), not line.endswith(b"*")) for line in self.lines]
+
+    @property
+    def numbers(self) -> list[int]:
+        """Return the revisions alone, for which all lines are read at once."""
+        return numbers_in(self.text) or []
+
+    @property
+    def partial(self) -> list[int]:
+        """Return those that are not inheritable."""
+        return [*map(int, PARTIAL.findall(self.text))]
 
 
 def rangelists_in(text: bytes) -> dict[bytes, str]:

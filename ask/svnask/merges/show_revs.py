@@ -140,9 +140,7 @@ def common_revisions(lines: Mapping[bytes, Revisions], source: Listed) -> set[in
 def shared(own: Located, source: Listed) -> Listed:
     """The revisions in which the target was at the place of the source."""
     return {
-        path: {rev for each in ranges for rev in source[path] if each.start <= rev < each.stop}
-        for path, ranges in own.items()
-        if path in source
+        path: set().union(*map(source[path].intersection, ranges)) for path, ranges in own.items() if path in source
     }
 
 
@@ -160,8 +158,8 @@ def sort_out(catalog: Catalog, source: Listed) -> Sorted:
         there = shifted(source, rest_below(path, catalog.target.path))
         wholes.append(common_revisions(lines.inheritable, there))
         partial |= common_revisions(lines.other, there)
-    whole = set().union(*wholes) if wholes else set()
-    lacking = {rev for rev in whole if any(rev not in each for each in wholes)}
+    whole = set().union(*wholes)
+    lacking = set().union(*(whole - each for each in wholes))
     return Sorted(whole - lacking, partial | lacking)
 
 
@@ -258,13 +256,13 @@ def as_answered(
     if not merged.ok or not eligible.ok:
         return found
     operative = set(logged.revisions)
-    partial = {each.rev for each in merged.revisions if not each.inheritable}
+    partial = {*merged.partial}
     if question.verb == "merged":
-        whole = {each.rev for each in merged.revisions if each.inheritable}
+        whole = {*merged.numbers} - partial
     else:
         # For svnhist one that was merged in part is not eligible.
         partial -= same
-        whole = operative - partial - {each.rev for each in eligible.revisions}
+        whole = operative.difference(partial, eligible.numbers)
     return Sorted(found.whole - operative | whole, found.partial - operative | partial)
 
 
