@@ -1,6 +1,7 @@
 """What one branch or tag has and another one lacks, as release notes list it."""
 from __future__ import annotations
 
+from array import array
 from collections.abc import Iterable, Iterator, Sequence
 from functools import cache, lru_cache
 from typing import NamedTuple
@@ -61,18 +62,19 @@ def mergeinfo_of(answers: Answers, target: Target) -> dict[bytes, str]:
 
 
 class LifeLogs:
-    """The operative revisions of lives. Each life is asked about once."""
+    """The operative revisions of lives. Each life is asked about once for all questions."""
 
     def __init__(self, history: OpenHistory) -> None:
         self._history = history
-        self._known: dict[Life, list[int]] = {}
+        # Numbers of four bytes, since there are many.
+        self._known: dict[Life, array[int]] = history.memo("life logs")
         self._mask = lru_cache(MOST_MASKS)(self._made)
 
     def find(self, lives: Iterable[Life]) -> None:
         """Ask about those of some lives that are not known, all at once."""
         new = [life for life in dict.fromkeys(lives) if life not in self._known]
         answers = self._history.ask([Log(life.path, life.last, (life.first, life.last)) for life in new])
-        self._known.update((life, answer.revisions) for life, answer in zip(new, answers))
+        self._known.update((life, array("I", answer.revisions)) for life, answer in zip(new, answers))
 
     def _made(self, life: Life) -> int:
         return mask_of_revisions(self._known[life])
