@@ -115,17 +115,18 @@ def measured(setup: Setup) -> Tables:
     """svnask about a repository with contents: its first question, a later one, and one after ten new revisions."""
     count = setup.scaled(REVISIONS)
     pieces = revisions(CONTENTS, count + 4 * TEN * (setup.times + 1))
-    repository = loaded(setup, "contents", islice(pieces, count // 4 + 1))
+    repository = loaded(setup, "contents", islice(pieces, count // 16 + 1))
     if repository is None:
         yield Table("svnask-repository", "source", [[ABSENT]])
         return
     by_folder = Source(setup, repository, pieces)
-    lengths = [(count // 4, by_folder.seconds())]
-    for length in (count // 2, count):
+    lengths = [(count // 16, by_folder.seconds())]
+    for length in (count // 8, count // 4):
         by_folder.grow(length - lengths[-1][0])
         lengths.append((length, by_folder.seconds()))
     yield Table("svnask-lengths", LENGTHS, [[length, *seconds] for length, seconds in lengths])
-    rows = [by_folder.row("folder", lengths[-1][1], MOST_OF_DUMP)]
+    by_folder.grow(count - lengths[-1][0])
+    rows = [by_folder.row("folder", by_folder.seconds(), MOST_OF_DUMP)]
     with served(repository.folder) as url:
         by_network = Source(setup, repository, pieces, url)
         rows.append(by_network.row("svn://", by_network.seconds(), MOST_OF_SERVED))
