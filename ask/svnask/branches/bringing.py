@@ -54,13 +54,13 @@ class Bringing:
 
     def among(self, asked: int) -> int:
         """Return the set of those that bring something."""
-        new = asked & ~self._memo["looked"].known & ~1
+        looked = self._memo["looked"]
+        new = asked & ~looked.known & ~1
         if new:
             more = mask_of_revisions(self._bringing(members_of(new)))
-            # Another thread may have looked at others meanwhile.
-            known, found = self._memo["looked"]
-            self._memo["looked"] = Looked(known | new, found | more)
-        return asked & self._memo["looked"].found
+            # What another thread has found meanwhile is lost, and looked at again.
+            looked = self._memo["looked"] = Looked(looked.known | new, looked.found | more)
+        return asked & looked.found
 
     def _bringing(self, asked: Iterable[int]) -> set[int]:
         """Return those that bring something, by their records."""
