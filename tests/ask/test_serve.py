@@ -41,6 +41,16 @@ running.tell = endless
 sys.exit(main.answer(sys.argv[3:]))
 """
 
+# Calls the command where another thread gets the signals, so that they interrupt no call of this one.
+UNINTERRUPTED = f"""
+import signal, sys, threading, time
+sys.path.insert(0, {str(ROOT / 'ask')!r})
+from svnask.cli import main
+threading.Thread(target=time.sleep, args=(60,), daemon=True).start()
+signal.pthread_sigmask(signal.SIG_BLOCK, [signal.SIGTERM])
+sys.exit(main.answer(sys.argv[1:]))
+"""
+
 
 class Serve(base.Case):
     def setUp(self) -> None:
@@ -258,6 +268,20 @@ class Serve(base.Case):
         time.sleep(1)
         connection.close()
         self.check_same("log", "-q")
+
+    def test_a_signal_that_comes_before_it_waits_ends_it(self) -> None:
+        for words in (["serve"], ["web", "--listen", "127.0.0.1:0"]):
+            command: list[base.Word] = [sys.executable, "-c", UNINTERRUPTED, self.dump, *words]
+            server = subprocess.Popen(command, stdout=subprocess.PIPE, stderr=subprocess.PIPE)
+            self.addCleanup(server.communicate)
+            self.addCleanup(server.kill)
+            assert server.stdout is not None
+            # Where a module is missing there are no pages.
+            if server.stdout.readline():
+                time.sleep(0.5)
+                server.terminate()
+                self.assertEqual(server.wait(30), -signal.SIGTERM)
+            self.assertEqual(self.sockets(), [])
 
     def test_a_caller_that_goes_ends_what_catches_all_exceptions(self) -> None:
         ours, theirs = socket.socketpair()

@@ -38,8 +38,8 @@ from svnask.sources.access import Access
 
 # How long a request may take to come, and how long it may be.
 PATIENCE, LONGEST = 10, 1 << 22
-# How long `select` is asked to wait: it takes no number of seconds of any length.
-LONGEST_WAIT = 24 * 3600
+# How many seconds `select` waits at most. A signal that comes just before does not end it.
+LONGEST_WAIT = 1.0
 STOP = b"stop\n"
 # How many seconds pass before the server looks again whether a caller is there, or a descriptor is free.
 PAUSE = 0.2
@@ -156,7 +156,7 @@ class Server:
             left = None if pending else last + stop_after - time.monotonic()
             if left is not None and left <= 0:
                 return
-            wait = None if left is None else min(left, LONGEST_WAIT)
+            wait = LONGEST_WAIT if left is None else min(left, LONGEST_WAIT)
             ready, _, _ = select.select([self._socket, self._ended], [], [], wait)
             if self._ended in ready:
                 pending, last = pending - len(self._ended.recv(1 << 10)), time.monotonic()

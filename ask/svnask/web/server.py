@@ -20,6 +20,8 @@ from svnask.web.wsgi import Application
 HOST, PORT = "127.0.0.1", 8080
 # How many questions are answered at once, and how long a header may be.
 THREADS, LONGEST = 20, 1 << 16
+# How many seconds are waited for a signal at a time.
+LONGEST_WAIT = 1.0
 # How many seconds a thread computes while others wait to.
 TURN = 0.0005
 
@@ -62,7 +64,9 @@ def serve_pages(given: argparse.Namespace) -> None:
         running = threading.Thread(target=server.run, daemon=True)
         running.start()
         announce(given, host, list(ports_of(server)))
-        running.join()
+        while running.is_alive():
+            # A signal that comes just before does not end it.
+            running.join(LONGEST_WAIT)
 
 
 def ports_of(server: Any) -> Iterator[int]:
