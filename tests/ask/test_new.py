@@ -3,11 +3,15 @@ from __future__ import annotations
 
 import itertools
 import json
+from concurrent.futures import ThreadPoolExecutor
 from pathlib import Path
+from random import Random
 
+from svnask.branches.bringing import Bringing
 from svnask.branches.gained import gained
 from svnask.errors import Denied
 from svnask.history.targets import Target
+from svnask.masks import mask_of_revisions
 
 from dev.dumps import FILE, Dump, Revision, added, changed
 from model import definitions as plain
@@ -54,6 +58,24 @@ class New(base.Case):
 
     def test_synchronized_features(self) -> None:
         self.drawn(4, synchronized, self.check)
+
+
+class Threads(base.Case):
+    def test_threads_that_look_at_the_same_revisions(self) -> None:
+        lot = Random(1)
+        dump = self.made("dump", synchronized(lot))
+        first = self.history(dump)
+        asked = [mask_of_revisions([lot.randint(1, first.head) for _ in range(20)]) for _ in range(40)]
+        wanted = [Bringing(first).among(each) for each in asked]
+
+        def among(mask: int) -> int:
+            with history.view() as view:
+                return Bringing(view).among(mask)
+
+        for _ in range(5):
+            history = self.history(dump)
+            with ThreadPoolExecutor(8) as pool:
+                self.assertEqual(list(pool.map(among, asked)), wanted)
 
 
 class Printed(base.Case):
