@@ -8,7 +8,7 @@ from svnask.copy.changes import Change
 from svnask.engine.queries import Log, is_askable
 from svnask.history.open_history import OpenHistory
 from svnask.masks import mask_between, mask_of_revisions, members_of
-from svnask.merges.value_changes import MalformedValue, Values
+from svnask.merges.value_changes import Differences
 from svnask.paths import is_at_or_below, joined, rest_below
 
 
@@ -44,7 +44,7 @@ class Bringing:
 
     def __init__(self, history: OpenHistory) -> None:
         self._history = history
-        self._values = Values()
+        self._differences = Differences(history)
         self._memo: dict[str, Looked] = history.memo("bringing")
         if not self._memo:
             # One that made and unmade no path and changed no mergeinfo brings something.
@@ -105,12 +105,8 @@ class Bringing:
     def _merged(self, rev: int, target: bytes) -> Iterator[tuple[bytes, int, int]]:
         """Yield the sources whose revisions were merged into a path, with ranges of these, each in one life."""
         history, explicit = self._history, self._history.explicit
-        try:
-            before, now = (explicit.text(target, each) or b"" for each in (rev - 1, rev))
-            gained = self._values.difference(before, now).gained
-        except MalformedValue:
-            return
-        for path, ranges in gained.items():
+        found = self._differences.of(explicit.given(target, rev - 1), explicit.given(target, rev))
+        for path, ranges in found.gained.items() if found is not None else ():
             for life in history.tree.lives(path, history.head) if is_askable(path) else ():
                 for lo, hi in ranges:
                     if max(lo, life.first) <= min(hi, life.last):

@@ -116,6 +116,10 @@ class Setting:
     def text(self) -> bytes | None:
         return None if self._whole is None else self._whole[self._first : self._last]
 
+    @property
+    def is_text(self) -> bool:
+        return self._whole is not None
+
     def taken(self) -> Setting:
         """Return the same with the text itself, which stays when the others are closed."""
         return Setting(self.text)

@@ -464,14 +464,15 @@ class OpenHistory:
         """
         return self._telling.read[1]
 
-    def memo(self, name: str) -> dict[Any, Any]:
+    def memo(self, name: str, most: int = MOST_FOUND) -> dict[Any, Any]:
         """Return what a part of svnask has found of the history, which all threads share until the history is renewed.
+        Where it has become more than the most, it is empty again.
 
         >>> history.memo("example")
         {}
         """
-        if len(self._telling.found.get(name, ())) > MOST_FOUND:
-            del self._telling.found[name]
+        if len(self._telling.found.get(name, ())) > most:
+            self._telling.found.pop(name, None)
         return self._telling.found.setdefault(name, {})
 
     def blocks(self) -> Iterator[tuple[int, Record | None]]:

@@ -6,7 +6,7 @@ from collections.abc import Iterable, Iterator
 
 from svnask.copy.sections import Setting
 from svnask.copy.store import Record
-from svnask.paths import joined
+from svnask.paths import Place, joined
 
 NOTHING = Setting(None)
 
@@ -27,6 +27,12 @@ class Explicit:
     def text(self, path: bytes, rev: int) -> bytes | None:
         """The text of a path in a revision."""
         return self._setting(path, rev).text
+
+    def given(self, path: bytes, rev: int) -> Place | None:
+        """Return the path with the revision that gave it the text of a revision, None where it has none then."""
+        revs = self._revs.get(path, [])
+        at = bisect.bisect_right(revs, rev)
+        return (path, revs[at - 1]) if at and self._settings[path][at - 1].is_text else None
 
     def _setting(self, path: bytes, rev: int) -> Setting:
         """Return what gave a path its text in a revision."""

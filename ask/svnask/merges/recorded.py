@@ -10,22 +10,29 @@ from typing import NamedTuple
 
 from svnask.history.lives import Life
 from svnask.history.open_history import OpenHistory
-from svnask.mergeinfo.explicit import Explicit
 from svnask.merges.gains import NONE, candidates
-from svnask.merges.value_changes import Difference, MalformedValue, PathRanges, Values, difference
+from svnask.merges.value_changes import Difference, Differences, MalformedValue, PathRanges, Values, difference
 from svnask.paths import Place, is_at_or_below, rest_below, tops_of
 from svnask.revisions import Revisions
 
+# Of how many places it is kept whether mergeinfo alone was changed there.
+MOST_PLACES = 20000
 
-def is_mergeinfo_alone(history: OpenHistory, explicit: Explicit, life: Life, rev: int) -> bool:
+
+def is_mergeinfo_alone(history: OpenHistory, life: Life, rev: int) -> bool:
     """Return whether a revision changed nothing but mergeinfo at and below a life, by its records. Of other properties
     that change along with it they say nothing."""
-    changed = explicit.settings.get(rev, set())
-    return life.first < rev and all(
-        record.action == "change" and not record.has_text and record.path in changed
-        for record in history.records(rev, rev)
-        if is_at_or_below(record.path, life.path)
-    )
+    if life.first >= rev:
+        return False
+    known: dict[Place, bool] = history.memo("mergeinfo alone", MOST_PLACES)
+    if (life.path, rev) not in known:
+        changed = history.explicit.settings.get(rev, set())
+        known[life.path, rev] = all(
+            record.action == "change" and not record.has_text and record.path in changed
+            for record in history.records(rev, rev)
+            if is_at_or_below(record.path, life.path)
+        )
+    return known[life.path, rev]
 
 
 # For each source path the revisions that were only recorded as merged.
@@ -33,9 +40,9 @@ Merged = dict[bytes, Revisions]
 
 
 class NearestText(NamedTuple):
-    """The text of mergeinfo that a path has or inherits, and the rest of the path below that which has it."""
+    """Where the text of mergeinfo was given that a path has or inherits, and the rest of the path below that."""
 
-    text: bytes
+    given: Place
     rest: bytes
 
 
@@ -44,7 +51,7 @@ class Recorded:
 
     def __init__(self, history: OpenHistory) -> None:
         self._history, self._explicit = history, history.explicit
-        self._values = Values()
+        self._values, self._differences = Values(), Differences(history)
         self._known: dict[Place, Merged] = history.memo("recorded")
 
     def of(self, places: Iterable[Place]) -> list[Merged]:
@@ -81,34 +88,32 @@ class Recorded:
                 following = next(left, None)
             now = self._nearest(life.path, rev)
             if now != before:
-                is_alone = is_mergeinfo_alone(self._history, self._explicit, life, rev)
-                change(found, self._difference(before, now), is_alone)
+                change(found, self._difference(before, now), is_mergeinfo_alone(self._history, life, rev))
             before = now
         for each in (following, *left) if following is not None else ():
             self._known[life.path, each] = found
 
     def _nearest(self, path: bytes, rev: int) -> NearestText | None:
         for top in tops_of(path):
-            text = self._explicit.text(top, rev)
-            if text is not None:
-                return NearestText(text, rest_below(path, top))
+            given = self._explicit.given(top, rev)
+            if given is not None:
+                return NearestText(given, rest_below(path, top))
         return None
 
     def _difference(self, before: NearestText | None, now: NearestText | None) -> Difference:
         if before is not None and now is not None and not before.rest and not now.rest:
-            try:
-                return self._values.difference(before.text, now.text)
-            except MalformedValue:
-                pass
+            found = self._differences.of(before.given, now.given)
+            if found is not None:
+                return found
         return difference(self._effective(before), self._effective(now))
 
     def _effective(self, nearest: NearestText | None) -> PathRanges:
         """Return what a text says, which is nothing where it is malformed."""
         if nearest is None:
             return {}
+        text = self._explicit.text(*nearest.given) or b""
         try:
-            text, rest = nearest
-            return self._values.inheritable(text, rest) if rest else self._values.whole(text)
+            return self._values.inheritable(text, nearest.rest) if nearest.rest else self._values.whole(text)
         except MalformedValue:
             return {}
 

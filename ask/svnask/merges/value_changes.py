@@ -16,6 +16,10 @@ from svnask.paths import NUL_FOR_SLASH, Place, is_at_or_below, joined, rest_belo
 from svnask.revisions import Range, Revisions
 
 RECENT = 64
+# So many lines in which two texts differ are read each by itself. Where there are more, all lines are looked up.
+MOST_LINES = 40
+# How many differences are kept. Those of a long history take some megabytes.
+MOST_DIFFERENCES = 20000
 SIMPLE_RUN = re.compile(rb"([0-9]{1,9})(?:-([0-9]{1,9}))?")
 SIMPLE = re.compile(rb"[0-9]{1,9}(?:-[0-9]{1,9})?(?:,[0-9]{1,9}(?:-[0-9]{1,9})?)*\Z")
 
@@ -130,6 +134,29 @@ class Values:
         return found
 
 
+class Differences:
+    """Tells what the texts of mergeinfo of two places differ in. Each pair is compared once for all questions."""
+
+    def __init__(self, history: OpenHistory) -> None:
+        self._explicit = history.explicit
+        self._values = Values()
+        self._known: dict[tuple[Place | None, Place | None], Difference | None]
+        self._known = history.memo("differences", MOST_DIFFERENCES)
+
+    def of(self, before: Place | None, now: Place | None) -> Difference | None:
+        """Return what was gained and lost from the text that was given at one place to that of another one, None where
+        either can't be read."""
+        if (before, now) not in self._known:
+            try:
+                self._known[before, now] = self._values.difference(self._text(before), self._text(now))
+            except MalformedValue:
+                self._known[before, now] = None
+        return self._known[before, now]
+
+    def _text(self, given: Place | None) -> bytes:
+        return b"" if given is None else self._explicit.text(*given) or b""
+
+
 def line_in(text: bytes) -> ValueLine:
     """Return what a line says. `ValueError` where Subversion can't read it."""
     name, _, ranges = text.rpartition(b":")
@@ -174,8 +201,10 @@ def is_rising(runs: list[Run]) -> bool:
 
 def differing(known: bytes, other: bytes) -> tuple[PathRanges, PathRanges]:
     """The lines in which two texts differ, of those of one path the ranges from the first to the last difference. The
-    known one has a plain line for each path. `ValueError` where the other one may not have."""
+    known one has a plain line for each path. `ValueError` where the other one may not have, or has little in common."""
     these, those = map(lines_of, middles(known, other))
+    if len(these) + len(those) > MOST_LINES:
+        raise ValueError("too little in common")
     left = rangelists_of(without_line(these, those))
     more = rangelists_of(without_line(those, these))
     if len(those) != len(these) - len(left) + len(more):

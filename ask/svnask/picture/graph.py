@@ -9,21 +9,19 @@ revisions of a part of the time.
 from __future__ import annotations
 
 import bisect
-import contextlib
 from collections.abc import Iterable, Iterator, Sequence
 from typing import NamedTuple
 
 from svnask.branches import questions as branches
 from svnask.engine.queries import Answer, LocationSegments, Mergeinfo, Query, is_askable
 from svnask.history import dates
-from svnask.history.lives import Life, Tree, as_of
+from svnask.history.lives import Life, as_of
 from svnask.history.open_history import OpenHistory
-from svnask.mergeinfo.explicit import Explicit
-from svnask.mergeinfo.values import line_of, lines_of
+from svnask.mergeinfo.values import value_of
 from svnask.merges import gains as merges
 from svnask.merges.gains import Gain, LifeQuery
 from svnask.merges.recorded import is_mergeinfo_alone
-from svnask.merges.value_changes import middles
+from svnask.merges.value_changes import Differences
 from svnask.paths import tops_of
 from svnask.projects import TAG, TRUNK, kind_of
 
@@ -142,13 +140,12 @@ def graph_of(history: OpenHistory, patterns: Sequence[bytes], view: View = View(
 
 def drawable(history: OpenHistory, patterns: Sequence[bytes], view: View = View()) -> Drawable:
     """Return what can be drawn of the lives of all paths that match a pattern."""
-    tree, explicit = history.tree, history.explicit
     until = history.head if view.until is None else view.until
     lives = list(as_of(branches.lives_of(history, patterns), until))
-    parts = Parts(tree, explicit, Finder(lives), until)
-    asked = [LifeQuery(life, query) for life in lives for query in merges.queries_about_life(explicit, life)] + list(
-        parts.asked()
-    )
+    parts = Parts(history, Finder(lives), until)
+    asked = [
+        LifeQuery(life, query) for life in lives for query in merges.queries_about_life(history.explicit, life)
+    ] + list(parts.asked())
     known = list(dict.fromkeys([*lives, *parts.wholes]))
     answers = history.ask(branches.logs_of(known) + [query for _, query in asked])
     operative = branches.operative(known, answers)
@@ -162,7 +159,7 @@ def drawable(history: OpenHistory, patterns: Sequence[bytes], view: View = View(
         gain for gain in parts.without_repeated(merges.gains_of(operative, asked, answers)) if gain.rev >= view.since
     ]
     lanes = list(lanes_since(chained, parts, gains, view.since))
-    return Drawable(history, view, lanes, gains, Merging(history, explicit, parts))
+    return Drawable(history, view, lanes, gains, Merging(history, parts))
 
 
 def is_since(life: Life, since: int) -> bool:
@@ -244,14 +241,15 @@ class Parts:
     """The paths below lanes that were merged, or merged into. These have mergeinfo of their own, or are named by some.
     `wholes` has the life at or below which each of them is."""
 
-    def __init__(self, tree: Tree, explicit: Explicit, finder: Finder, head: int) -> None:
-        self._tree, self._explicit, self._finder, self._head = tree, explicit, finder, head
+    def __init__(self, history: OpenHistory, finder: Finder, head: int) -> None:
+        self._tree, self._explicit, self._finder, self._head = history.tree, history.explicit, finder, head
+        self._differences = Differences(history)
         self._lives: dict[bytes, list[Life]] = {}
         # For each life with mergeinfo the revisions with a record that set it.
         self._set: dict[Life, set[int]] = {}
         self.wholes: dict[Life, Life] = {}
-        for rev in sorted(explicit.settings):
-            for path in sorted(explicit.settings[rev]):
+        for rev in sorted(self._explicit.settings):
+            for path in sorted(self._explicit.settings[rev]):
                 whole = finder.at(path, rev)
                 if whole is not None:
                     self._take(path, rev, whole)
@@ -271,14 +269,13 @@ class Parts:
             self.wholes[life] = whole
 
     def _named(self, path: bytes, rev: int) -> set[bytes]:
-        """The source paths of the lines that a revision gave to the mergeinfo of a path."""
-        before, after = (self._explicit.text(path, each) or b"" for each in (rev - 1, rev))
-        left, more = map(lines_of, middles(before, after))
-        found = set()
-        for line in set(more).difference(left):
-            with contextlib.suppress(ValueError):
-                found.add(line_of(line)[0])
-        return found
+        """The source paths about which a revision changed what the mergeinfo of a path says."""
+        given = self._explicit.given(path, rev)
+        found = self._differences.of(self._explicit.given(path, rev - 1), given)
+        if found is not None:
+            return {*found.gained, *found.lost}
+        text = None if given is None else self._explicit.text(*given)
+        return {*(value_of(text or b"") or ())}
 
     def _lives_of(self, path: bytes) -> list[Life]:
         if path not in self._lives:
@@ -376,9 +373,8 @@ def by_source(lane: Lane) -> tuple[int, int, bytes]:
 class Merging:
     """Makes arrows of gains."""
 
-    def __init__(self, history: OpenHistory, explicit: Explicit, parts: Parts) -> None:
-        self._history, self._explicit, self._parts = history, explicit, parts
-        self._is_alone: dict[tuple[Life, int], bool] = {}
+    def __init__(self, history: OpenHistory, parts: Parts) -> None:
+        self._history, self._parts = history, parts
 
     def merges(self, gains: Iterable[Gain], numbers: dict[Life, int]) -> Iterator[LaneMerge]:
         """The gains of lives that are in lanes, by the numbers of these, joined where lives are in one lane."""
@@ -387,19 +383,13 @@ class Merging:
             source, target = (numbers.get(self._parts.whole(life)) for life in (gain.source, gain.target))
             if source is not None and target is not None:
                 of, into = (life.path if life in self._parts.wholes else None for life in (gain.source, gain.target))
-                state = gain.lost, gain.is_carried, self._is_record_only(gain)
+                state = gain.lost, gain.is_carried, is_mergeinfo_alone(self._history, gain.target, gain.rev)
                 key = source, target, gain.rev, *state, of, into
                 # Most merges have one gain, whose revisions are not copied.
                 before = found[key].revisions if key in found else ()
                 revisions = sorted([*before, *gain.revisions]) if before else gain.revisions
                 found[key] = LaneMerge(source, target, gain.rev, revisions, *state, of, into)
         yield from found.values()
-
-    def _is_record_only(self, gain: Gain) -> bool:
-        place = gain.target, gain.rev
-        if place not in self._is_alone:
-            self._is_alone[place] = is_mergeinfo_alone(self._history, self._explicit, *place)
-        return self._is_alone[place]
 
 
 def newest(revisions: Sequence[int], rev: int) -> Sequence[int]:
@@ -470,7 +460,9 @@ def microseconds(history: OpenHistory, revisions: Iterable[int]) -> int:
 
 def dots_of(lanes: list[Lane], columns: list[int]) -> Iterator[Dot]:
     for number, lane in enumerate(lanes):
-        found: dict[int, list[int]] = {}
-        for rev in lane.revisions:
-            found.setdefault(bisect.bisect_left(columns, rev), []).append(rev)
-        yield from (Dot(number, column, revisions) for column, revisions in found.items())
+        first = 0
+        while first < len(lane.revisions):
+            column = bisect.bisect_left(columns, lane.revisions[first])
+            end = bisect.bisect_right(lane.revisions, columns[column], first)
+            yield Dot(number, column, lane.revisions[first:end])
+            first = end
