@@ -7,7 +7,7 @@ from __future__ import annotations
 
 from collections.abc import Callable
 
-from interop.drawn_history import drawn_revisions
+from dev.tree import INTEROP
 from interop.workshop import Workshop
 
 Make = Callable[[Workshop], None]
@@ -303,9 +303,9 @@ def deep(shop: Workshop) -> None:
 
 
 def drawn(shop: Workshop) -> None:
-    """Thirty revisions with additions, changes, deletions, copies and replacements, at random with a fixed seed."""
-    for steps in drawn_revisions(30):
-        shop.server(*steps)
+    """Thirty revisions of additions, changes, deletions, copies and replacements that were drawn once. Their own dump has
+    them."""
+    shop.load((INTEROP / "drawn.dump").read_bytes())
 
 
 def inherited(shop: Workshop) -> None:

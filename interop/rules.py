@@ -3,9 +3,12 @@ from __future__ import annotations
 
 from collections.abc import Sequence
 
-from interop.drawn_history import is_below
 from interop.bindings import Merge
 from interop.repository import Pair, Place, Repository, path_in
+
+
+def is_below(path: str, above: str) -> bool:
+    return path == above or above == "" or path.startswith(above + "/")
 
 
 def segments_differ(repository: Repository, place: Place) -> bool:

@@ -94,9 +94,13 @@ class Workshop:
         Opened(self.repository).set_mergeinfo(texts)
         self.svn("update")
 
-    def empty_revision(self) -> None:
-        self.tools.run("svnadmin", "load", "-q", self.repository, given=bytes(Dump([Revision(1, properties={})])))
+    def load(self, dump: bytes) -> None:
+        """The revisions of a dump."""
+        self.tools.run("svnadmin", "load", "-q", self.repository, given=dump)
         self.svn("update")
+
+    def empty_revision(self) -> None:
+        self.load(bytes(Dump([Revision(1, properties={})])))
 
     def finish(self, name: str) -> bytes:
         """The dump, with fixed dates, authors and UUID."""
