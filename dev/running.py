@@ -7,7 +7,7 @@ import subprocess
 import sys
 import tempfile
 import time
-from collections.abc import Callable, Mapping, Sequence
+from collections.abc import Mapping, Sequence
 from contextlib import ExitStack
 from dataclasses import dataclass
 from pathlib import Path
@@ -123,11 +123,6 @@ def measure(words: Words, feeder: Words | None = None, file: Path = NOTHING, is_
         errors.seek(0)
         outcome = Outcome(child.returncode, output.read(), errors.read())
     return Measured(wall, usage.ru_utime + usage.ru_stime, usage.ru_maxrss * 1024, outcome)
-
-
-def best_of(times: int, runs: Callable[[], Measured]) -> Measured:
-    """The run of so many that took the least time."""
-    return min((runs() for _ in range(times)), key=lambda taken: taken.wall)
 
 
 def started(
