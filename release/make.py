@@ -87,10 +87,10 @@ def write(files: Mapping[str, bytes]) -> None:
     print(lines, end="")
 
 
-def make() -> None:
+def make(other: Path | None) -> None:
     judge_tree()
     for program in PROGRAMS:
-        make_object(program)
+        make_object(program, other)
     judge_tree()
     with tempfile.TemporaryDirectory(prefix="svnhist-release-") as folder:
         paths = {program.name: Path(folder, program.name) for program in PROGRAMS}
@@ -102,9 +102,10 @@ def make() -> None:
 
 def main() -> int:
     formatter = argparse.RawDescriptionHelpFormatter
-    argparse.ArgumentParser(prog="scripts/release", description=__doc__, formatter_class=formatter).parse_args()
+    parser = argparse.ArgumentParser(prog="scripts/release", description=__doc__, formatter_class=formatter)
+    parser.add_argument("--objects", metavar="TREE", type=Path, help="the tree that has proved the same programs")
     try:
-        make()
+        make(parser.parse_args().objects)
     except (NotMade, OSError, subprocess.CalledProcessError) as error:
         print(f"release: {error}", file=sys.stderr)
         return 1

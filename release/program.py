@@ -4,6 +4,7 @@ from __future__ import annotations
 
 import shutil
 import subprocess
+import sys
 import tempfile
 from pathlib import Path
 from typing import NamedTuple
@@ -81,10 +82,13 @@ def is_of_object(program: Program) -> bool:
         return content(linked) == content(program.built())
 
 
-def make_object(program: Program) -> None:
-    """Build the program once more where its object is not kept."""
+def make_object(program: Program, other: Path | None) -> None:
+    """Take the object from another tree, or build the program once more, where its object is not kept."""
+    if other is not None and not is_of_object(program):
+        shutil.copyfile(other / program.object_file().relative_to(ROOT), program.object_file())
     if is_of_object(program):
         return
+    print(f"release: the object of {program.name} is not kept here, so the program is built once more", file=sys.stderr)
     program.made_from().unlink()
     # What is said of the build is shown.
     subprocess.run(
