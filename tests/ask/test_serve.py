@@ -18,7 +18,7 @@ from dev import running
 from dev.dumps import Revision, added, changed, dump_of
 from dev.tree import ROOT, SVNASK
 from svnask.serving import client, sockets
-from svnask.serving.server import Caller, Gone
+from svnask.serving.server import Caller, Gone, is_of_process
 from tests.ask import base
 from tests.ask.questions import all_but
 
@@ -130,6 +130,10 @@ class Serve(base.Case):
             done = running.run(base.command(self.dump, "ask", self.folder / name), queries)
             self.assertEqual((done.status, done.output.count(b"\n")), (0, 3), done)
             self.assertFalse(self.is_asked(self.dump, "graph", "-o", self.folder / name))
+
+    def test_files_in_memory_are_the_same_for_all(self) -> None:
+        names = ("/dev/shm/a.dump", "/dev/shm/../stdin", "/dev/shm", "/dev/fd/0", "/proc/self/fd/0", "/development/f")
+        self.assertEqual([is_of_process(name) for name in names], [False, True, True, True, True, False])
 
     def test_what_is_not_for_it(self) -> None:
         self.served()

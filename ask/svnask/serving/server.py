@@ -12,6 +12,7 @@ import ctypes
 import io
 import json
 import os
+import re
 import select
 import socket
 import sys
@@ -45,6 +46,7 @@ STOP = b"stop\n"
 PAUSE = 0.2
 # How many links are followed.
 LINKS = 40
+OF_PROCESSES = re.compile("/(dev/(?!shm/)|proc/)")
 
 
 def serve(given: argparse.Namespace) -> None:
@@ -262,7 +264,8 @@ def is_of_process(name: str) -> bool:
     """Return whether a name, or one that it is a link to, may mean another file in another process."""
     for _ in range(LINKS):
         folder = os.path.realpath(os.path.dirname(os.path.abspath(name)))
-        if folder.split("/")[1] in ("dev", "proc"):
+        # Files in memory, in /dev/shm, are the same for all.
+        if OF_PROCESSES.match(folder + "/"):
             return True
         name = os.path.join(folder, os.path.basename(name))
         if not os.path.islink(name):
