@@ -18,7 +18,7 @@ from typing import Callable, TypeVar
 from bench import hostile_dumps as dumps
 from bench.colliding import Finder
 from bench.hostile_dumps import MOST_WORKERS, Maker, Pieces
-from bench.measure import NOTHING, PIECE, REFUSED, Setup
+from bench.measure import ATTEMPTS, NOTHING, PIECE, REFUSED, Setup
 from bench.tables import Cell, Limited, Row, Table, Tables
 from dev.running import Failed, Limits, Measured, Words, started
 
@@ -147,8 +147,11 @@ def pair(setup: Setup, shape: Shape) -> tuple[Input, Input]:
     """Return the measured inputs of a shape, in its size and in twice that."""
     size = setup.scaled(shape.size)
     once, twice = (Input(setup, shape, times * size, f"times-{times}") for times in (1, 2))
-    for each in (once, twice) * setup.times:
-        each.run_again()
+    for _ in range(ATTEMPTS):
+        for each in (once, twice) * setup.times:
+            each.run_again()
+        if twice.wall <= MOST_TIME * once.wall or shape.per_byte is None:
+            break
     return once, twice
 
 

@@ -18,6 +18,8 @@ QUICK = 10
 REFUSED = 1
 NOTHING, PIPE = Path(os.devnull), Path("/dev/stdin")
 PIECE = 1 << 20
+# How often is measured what misses a limit: other work on the machine may have taken the time.
+ATTEMPTS = 4
 Key = TypeVar("Key")
 Run = Callable[[], Measured]
 WALL, PROCESSOR = attrgetter("wall"), attrgetter("processor")
@@ -71,10 +73,17 @@ def command(words: Words, *, feeder: Words | None = None, status: int = 0, is_ke
     return run
 
 
-def best_in_turns(runs: Mapping[Key, Run], times: int, cost: Callable[[Measured], float] = WALL) -> dict[Key, Measured]:
-    """Return the run of each kind that cost least, of so many in turns."""
+def best_in_turns(
+    runs: Mapping[Key, Run],
+    times: int,
+    cost: Callable[[Measured], float] = WALL,
+    is_met: Callable[[dict[Key, float]], bool] = lambda costs: True,
+) -> dict[Key, Measured]:
+    """Return the run of each kind that cost least, of so many in turns, or of some more if a limit is missed."""
     best: dict[Key, Measured] = {}
-    for _ in range(times):
+    for turn in range(ATTEMPTS * times):
+        if turn and turn % times == 0 and is_met({key: cost(taken) for key, taken in best.items()}):
+            break
         for key, run in runs.items():
             taken = run()
             if key not in best or cost(taken) < cost(best[key]):
@@ -82,9 +91,11 @@ def best_in_turns(runs: Mapping[Key, Run], times: int, cost: Callable[[Measured]
     return best
 
 
-def walls(runs: Mapping[Key, Run], times: int) -> dict[Key, float]:
+def walls(
+    runs: Mapping[Key, Run], times: int, is_met: Callable[[dict[Key, float]], bool] = lambda seconds: True
+) -> dict[Key, float]:
     """Return the seconds of the best run of each kind."""
-    return {key: taken.wall for key, taken in best_in_turns(runs, times).items()}
+    return {key: taken.wall for key, taken in best_in_turns(runs, times, WALL, is_met).items()}
 
 
 def load_into_cache(path: Path) -> Path:

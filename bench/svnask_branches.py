@@ -41,14 +41,18 @@ def served(setup: Setup, dump: Path) -> Iterator[None]:
             command(setup.svnask(dump, "stop"))()
 
 
+def is_met(seconds: dict[str, float]) -> bool:
+    return all(seconds[name] - seconds["info"] <= most for name, most in VERBS.items())
+
+
 def measured(setup: Setup) -> Tables:
     """svnask about a history with many branches: verbs about all of them, logs with what was merged, and a server."""
     dump = write(setup.folder / "branches", branchy(setup.scaled(REVISIONS)))
     runs: dict[str, Run] = {name: command(setup.svnask(dump, *name.split())) for name in ("info", *VERBS)}
-    seconds = walls(runs, setup.times)
+    seconds = walls(runs, setup.times, is_met)
     with served(setup, dump):
         question = command(setup.svnask(dump, "log", "-q", "-l", "1", "trunk"))
-        reply = walls({"": question}, 2 * setup.times)[""]
+        reply = walls({"": question}, setup.times, lambda found: found[""] <= MOST_OF_SERVER)[""]
     rows: list[Row] = [["reading, and `info`", seconds["info"], None]]
     rows += [
         [f"`{name}`", seconds[name], Limited(max(0, seconds[name] - seconds["info"]), most)]

@@ -1,9 +1,10 @@
 """`svnask export`: a database of 120,000 revisions with 490,000 changes, and one that gets a revision more.
 
-Times are those of a clock. The memory is that of the process that writes, with what is mapped of the copy.
+Times are those of a clock. The memory is that of the process that writes, and is in no file.
 """
 from __future__ import annotations
 
+import itertools
 from pathlib import Path
 
 from bench.histories import CHANGES, generated
@@ -27,17 +28,28 @@ def new_export(setup: Setup, dump: Path, database: Path) -> Run:
     return run
 
 
+def later_export(setup: Setup, dump: Path, database: Path, count: int) -> Run:
+    """Return a run that adds a revision to a dump, and what is new to a database."""
+    numbers = itertools.count(count + 1)
+
+    def run() -> Measured:
+        with open(dump, "ab") as file:
+            file.write(bytes(Revision(next(numbers), [changed(b"trunk")])))
+        return command(setup.svnask(dump, "export", database))()
+
+    return run
+
+
 def measured(setup: Setup) -> Tables:
     """`svnask export`: a database of 120,000 revisions with 490,000 changes, and one that gets a revision more."""
     count = setup.scaled(REVISIONS)
     dump, database = generated(setup.folder / "exported", CHANGES, count).dump, setup.folder / "exported.db"
     command(setup.svnask(dump, "info"))()
-    seconds = walls({"": new_export(setup, dump, database)}, setup.times)[""]
+    runs = {"": new_export(setup, dump, database)}
+    seconds = walls(runs, setup.times, lambda found: found[""] <= MOST_SECONDS)[""]
     words = setup.python(ROOT / "bench" / "own_peak.py", dump, "export", setup.folder / "other.db")
     megabytes = int(command(words)().outcome.errors.split()[-1]) * 1024 / 1e6
-    with open(dump, "ab") as file:
-        file.write(bytes(Revision(count + 1, [changed(b"trunk")])))
-    later = command(setup.svnask(dump, "export", database))().wall
+    later = walls({"": later_export(setup, dump, database, count)}, 1, lambda found: found[""] <= MOST_OF_LATER)[""]
     rows: list[Row] = [
         ["a new database", Limited(seconds, MOST_SECONDS), Limited(megabytes, MOST_MEGABYTES)],
         ["a revision more", Limited(later, MOST_OF_LATER), None],

@@ -2,7 +2,7 @@
 
 Each verb that asks a question is measured, with arguments by the names that its help has for them, so that a new verb is
 measured without being named here. Times are processor seconds with those of svnhist-live; memory is that of Python
-alone. What prints or compares as much as the square of the size is left out.
+alone, in no file. What prints or compares as much as the square of the size is left out.
 """
 from __future__ import annotations
 
@@ -43,8 +43,6 @@ MORE = (["log", "-v"], ["log", "-g", "trunk"], ["log", "--xml", "-v"])
 AS_THE_SQUARE = {("chain", "heirs"), ("chain", "unmerged"), ("chain", "export"), ("renames", "heirs")}
 # Shorter times are taken for this one, since they vary.
 LEAST = 0.5
-# How often a verb is measured that misses a limit: other work on the machine may have taken the time.
-ATTEMPTS = 4
 MOST_TIMES, MOST_SECONDS, MOST_MEGABYTES = 2.4, 10.0, 300.0
 
 
@@ -73,6 +71,14 @@ def questions(queries: Path) -> Iterator[list[str]]:
     yield from MORE
 
 
+def times_of(once: float, twice: float) -> float:
+    return twice / max(once, LEAST)
+
+
+def is_met(once: float, twice: float) -> bool:
+    return times_of(once, twice) <= MOST_TIMES and twice <= MOST_SECONDS
+
+
 class Found(NamedTuple):
     """The cost of a question about a shape in its size and in twice that."""
 
@@ -82,15 +88,7 @@ class Found(NamedTuple):
 
     @property
     def times(self) -> float:
-        return self.twice.processor / max(self.once.processor, LEAST)
-
-    @property
-    def is_met(self) -> bool:
-        return self.times <= MOST_TIMES and self.twice.processor <= MOST_SECONDS
-
-    def best(self, other: Found) -> Found:
-        """Return the best of two measurements."""
-        return Found(self.words, min(self.once, other.once, key=PROCESSOR), min(self.twice, other.twice, key=PROCESSOR))
+        return times_of(self.once.processor, self.twice.processor)
 
 
 def asked(setup: Setup, dump: Path, words: list[str]) -> Measured:
@@ -105,16 +103,9 @@ def asked(setup: Setup, dump: Path, words: list[str]) -> Measured:
 
 def found_of(setup: Setup, dumps: list[Path], words: list[str]) -> Found:
     runs = {dump: partial(asked, setup, dump, words) for dump in dumps}
-    found: Found | None = None
-    for _ in range(ATTEMPTS):
-        best = best_in_turns(runs, setup.times, PROCESSOR)
-        verb = " ".join([words[0], *(word for word in words if word.startswith("-"))])
-        new = Found(verb, *(best[dump] for dump in dumps))
-        found = found.best(new) if found else new
-        if found.is_met:
-            break
-    assert found is not None
-    return found
+    best = best_in_turns(runs, setup.times, PROCESSOR, lambda costs: is_met(*costs.values()))
+    verb = " ".join([words[0], *(word for word in words if word.startswith("-"))])
+    return Found(verb, *(best[dump] for dump in dumps))
 
 
 def rows_of(setup: Setup, shape: Callable[[int], bytes], size: int) -> Iterator[Row]:

@@ -9,6 +9,7 @@ import os
 import shutil
 import subprocess
 from dataclasses import replace
+from functools import partial
 
 from bench.histories import RELEASES, Generated, Peg, generated
 from bench.measure import PROCESSOR, Run, Setup, best_in_turns, command
@@ -61,6 +62,11 @@ class Commands:
         return run
 
 
+def is_met(most: float, costs: dict[str, float]) -> bool:
+    beside, ours = costs.values()
+    return ours <= most * beside
+
+
 def measured(setup: Setup) -> Tables:
     """svnask: its first question about a dump, a later one, and many answers, beside `grep` and the program itself."""
     history = generated(setup.folder / "asked", MIX, setup.scaled(REVISIONS))
@@ -75,9 +81,9 @@ def measured(setup: Setup) -> Tables:
         {ALONE: asked.alone(1), LATER: command(later)},
         {MANY: asked.alone(count), MODULE: asked.module(count, lines)},
     ]
-    found = [best_in_turns(each, setup.times, PROCESSOR) for each in pairs]
     rows: list[Row] = []
-    for taken, most in zip(found, (MOST_OF_GREP, MOST_OF_PROGRAM, MOST_OF_LINES)):
+    for runs, most in zip(pairs, (MOST_OF_GREP, MOST_OF_PROGRAM, MOST_OF_LINES)):
+        taken = best_in_turns(runs, setup.times, PROCESSOR, partial(is_met, most))
         (name, beside), (ours, our) = taken.items()
         memory: Cell = Limited(peak, MOST_MEGABYTES) if ours == FIRST else None
         rows.append([name, beside.processor, None, None])
