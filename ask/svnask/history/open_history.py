@@ -118,7 +118,7 @@ class OpenHistory:
         cls: type[H],
         dump: str | BinaryIO,
         is_cached: bool = True,
-        seen: Callable[[int], object] = lambda read: None,
+        seen: Callable[[int], object] | None = None,
         options: Sequence[str] = (),
     ) -> H:
         """The history of a file, by its name or opened, or of a repository, by its folder or its URL.
@@ -131,10 +131,11 @@ class OpenHistory:
         ...     merges.head
         19
         """
+        progress = Progress() if seen is None else Told(seen)
         if not isinstance(dump, str):
-            return cls.of(Dump(str(dump.name), dump), Told(seen), is_cached)
+            return cls.of(Dump(str(dump.name), dump), progress, is_cached)
         with closing(source_of(dump, Access(tuple(options)))) as source:
-            return cls.of(source, Told(seen), is_cached)
+            return cls.of(source, progress, is_cached)
 
     @classmethod
     def of(cls: type[H], source: Source, progress: Progress, is_cached: bool = True, is_offline: bool = False) -> H:
