@@ -3,7 +3,9 @@ from __future__ import annotations
 
 import random
 import unittest
+from unittest import mock
 
+from svnask.merges import value_changes
 from svnask.merges.value_changes import Difference, MalformedValue, Values, difference
 
 PATHS = (b"/trunk", b"/b/one", b"/b/one/a", b"/a:b", b"trunk", b"//b/one/")
@@ -82,8 +84,9 @@ class Differences(unittest.TestCase):
             for _ in range(12):
                 others = changed(chance, lines)
                 pair = b"\n".join(lines), b"\n".join(others)
-                # A log goes back in most cases, and forward in some.
-                read += self.check(values, *(pair if chance.random() < 0.5 else pair[::-1]))
+                # A log goes back in most cases, and forward in some. With few lines in common all are looked up.
+                with mock.patch.object(value_changes, "MOST_LINES", chance.choice((1, value_changes.MOST_LINES))):
+                    read += self.check(values, *(pair if chance.random() < 0.5 else pair[::-1]))
                 lines = others
         self.assertGreater(read, 2000)
 
