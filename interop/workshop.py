@@ -96,7 +96,7 @@ class Workshop:
 
     def load(self, dump: bytes) -> None:
         """The revisions of a dump."""
-        self.tools.run("svnadmin", "load", "-q", self.repository, given=dump)
+        self.tools.run("svnadmin", "load", "-q", "--ignore-uuid", self.repository, given=dump)
         self.svn("update")
 
     def empty_revision(self) -> None:
