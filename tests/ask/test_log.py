@@ -3,7 +3,7 @@ from __future__ import annotations
 
 from pathlib import Path
 
-from dev.dumps import FILE, added, changed, copied, deleted, dump_of
+from dev.dumps import FILE, Dump, Revision, added, changed, copied, deleted, dump_of
 from svnask.branches import questions as branches
 from svnask.history.targets import Target
 from svnask.log import selection as log
@@ -26,6 +26,17 @@ class Log(base.Case):
         done = base.called(dump, "log", "-q", *words)
         self.assertEqual((done.status, done.said), (0, ""), words)
         return [int(line.split()[0][1:]) for line in done.output.splitlines() if line.startswith(b"r")]
+
+    def test_what_follows_a_nul_is_left_out(self) -> None:
+        given = {b"svn:author": b"alice", b"svn:date": b"2024-01-01T00:00:00.000000Z", b"svn:log": b"message"}
+        cut = [given, *({**given, name: value + b"\0more"} for name, value in given.items())]
+        dumps = [
+            self.made(f"dump{at}", bytes(Dump([Revision(0), Revision(1, [added(b"trunk")], properties)])))
+            for at, properties in enumerate(cut)
+        ]
+        for word in ("--incremental", "--xml"):
+            wanted, *found = [base.called(dump, "log", word, "-r", "1").output for dump in dumps]
+            self.assertEqual(found, [wanted] * len(given), word)
 
     def test_a_copy_to_itself_stops_what_is_below_it(self) -> None:
         dump = self.made("renewed", RENEWED)
