@@ -132,8 +132,12 @@ class Serve(base.Case):
             self.assertFalse(self.is_asked(self.dump, "graph", "-o", self.folder / name))
 
     def test_files_in_memory_are_the_same_for_all(self) -> None:
-        names = ("/dev/shm/a.dump", "/dev/shm/../stdin", "/dev/shm", "/dev/fd/0", "/proc/self/fd/0", "/development/f")
-        self.assertEqual([is_of_process(name) for name in names], [False, True, True, True, True, False])
+        loop = self.folder / "loop"
+        loop.symlink_to("loop")
+        for name in ("/dev/shm/a.dump", "/development/f", str(self.dump)):
+            self.assertFalse(is_of_process(name), name)
+        for name in ("/dev/shm/../stdin", "/dev/shm", "/dev/fd/0", "/proc/self/fd/0", str(loop)):
+            self.assertTrue(is_of_process(name), name)
 
     def test_what_is_not_for_it(self) -> None:
         self.served()
