@@ -84,7 +84,8 @@ def measured(setup: Setup) -> Tables:
     rows: list[Row] = []
     for runs, most in zip(pairs, (MOST_OF_GREP, MOST_OF_PROGRAM, MOST_OF_LINES)):
         taken = best_in_turns(runs, setup.times, PROCESSOR, partial(is_met, most))
-        (name, beside), (ours, our) = taken.items()
+        name, ours = runs
+        beside, our = taken[name], taken[ours]
         memory: Cell = Limited(peak, MOST_MEGABYTES) if ours == FIRST else None
         rows.append([name, beside.processor, None, None])
         rows.append([ours, our.processor, Limited(our.processor / beside.processor, most), memory])
