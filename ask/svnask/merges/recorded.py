@@ -40,7 +40,7 @@ Merged = dict[bytes, Revisions]
 
 
 class NearestText(NamedTuple):
-    """Where the text of mergeinfo was given that a path has or inherits, and the rest of the path below that."""
+    """The place at which the mergeinfo was given that a path has or inherits, and the rest of the path below it."""
 
     given: Place
     rest: bytes
