@@ -15,6 +15,7 @@ from svnask.engine.queries import Pair, Query, Segments
 from svnask.history.lives import Life
 from svnask.merges import gains as merges
 from svnask.merges.gains import Gain
+from svnask.merges.value_changes import MOST_RANGES, Differences
 from svnask.paths import Place
 from tests.ask import base
 
@@ -133,6 +134,19 @@ class Gains(base.Case):
                 (b"/b/one", [5], b"/b/two", 6, None, False),
             ],
         )
+
+
+class Kept(base.Case):
+    def test_large_differences_are_not_kept(self) -> None:
+        lines = [b"/b/%d:1" % number for number in range(MOST_RANGES)]
+        values = [lines, [*lines, b"/c:1"], [b"/c:2"], [b"no colon"]]
+        dump = dump_of([added(b"trunk")], *([changed(b"trunk", mergeinfo(b"\n".join(value)))] for value in values))
+        history = self.history(self.made("dump", dump))
+        given = [None, *((b"/trunk", rev) for rev in range(2, 6))]
+        pairs = [*zip(given, given[1:])]
+        found = [Differences(history).of(*pair) for pair in pairs]
+        self.assertEqual([each and each.size() for each in found], [MOST_RANGES, 1, MOST_RANGES + 2, None])
+        self.assertEqual([*history.memo("differences")], [pairs[0], pairs[1], pairs[3]])
 
 
 class ShowRevs(base.Case):

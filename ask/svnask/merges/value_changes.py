@@ -1,6 +1,7 @@
 """What mergeinfo gained and lost in a revision, as `svn log -g` sees it."""
 from __future__ import annotations
 
+import contextlib
 import functools
 import re
 from collections.abc import Container, Iterator, Sequence
@@ -18,8 +19,9 @@ from svnask.revisions import Range, Revisions
 RECENT = 64
 # So many lines in which two texts differ are read each by itself. Where there are more, all lines are looked up.
 MOST_LINES = 40
-# How many differences are kept. Those of a long history take some megabytes.
-MOST_DIFFERENCES = 20000
+# How many differences are kept, and how many ranges each of them has at most. Those of a long history take some
+# megabytes, and a large one may take more than its texts.
+MOST_DIFFERENCES, MOST_RANGES = 20000, 16
 SIMPLE_RUN = re.compile(rb"([0-9]{1,9})(?:-([0-9]{1,9}))?")
 SIMPLE = re.compile(rb"[0-9]{1,9}(?:-[0-9]{1,9})?(?:,[0-9]{1,9}(?:-[0-9]{1,9})?)*\Z")
 
@@ -33,6 +35,10 @@ class Difference(NamedTuple):
 
     gained: PathRanges
     lost: PathRanges
+
+    def size(self) -> int:
+        """Return how many ranges there are, of which a path has one at least."""
+        return sum(max(len(ranges), 1) for paths in (self.gained, self.lost) for ranges in paths.values())
 
     def add(self, other: Difference) -> None:
         for total, more in zip(self, other):
@@ -135,7 +141,8 @@ class Values:
 
 
 class Differences:
-    """Tells what the texts of mergeinfo of two places differ in. Each pair is compared once for all questions."""
+    """Tells what the texts of mergeinfo of two places differ in. A pair that differs little is compared once for all
+    questions."""
 
     def __init__(self, history: OpenHistory) -> None:
         self._explicit = history.explicit
@@ -146,12 +153,14 @@ class Differences:
     def of(self, before: Place | None, now: Place | None) -> Difference | None:
         """Return what was gained and lost from the text that was given at one place to that of another one, None where
         either can't be read."""
-        if (before, now) not in self._known:
-            try:
-                self._known[before, now] = self._values.difference(self._text(before), self._text(now))
-            except MalformedValue:
-                self._known[before, now] = None
-        return self._known[before, now]
+        if (before, now) in self._known:
+            return self._known[before, now]
+        found = None
+        with contextlib.suppress(MalformedValue):
+            found = self._values.difference(self._text(before), self._text(now))
+        if found is None or found.size() <= MOST_RANGES:
+            self._known[before, now] = found
+        return found
 
     def _text(self, given: Place | None) -> bytes:
         return b"" if given is None else self._explicit.text(*given) or b""
