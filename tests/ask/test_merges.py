@@ -14,6 +14,7 @@ from svnask.engine.queries import Merges as Merged
 from svnask.engine.queries import Pair, Query, Segments
 from svnask.history.lives import Life
 from svnask.merges import gains as merges
+from svnask.merges import value_changes
 from svnask.merges.gains import Gain
 from svnask.merges.value_changes import MOST_RANGES, Differences
 from svnask.paths import Place
@@ -147,6 +148,14 @@ class Kept(base.Case):
         found = [Differences(history).of(*pair) for pair in pairs]
         self.assertEqual([each and each.size() for each in found], [MOST_RANGES, 1, MOST_RANGES + 2, None])
         self.assertEqual([*history.memo("differences")], [pairs[0], pairs[1], pairs[3]])
+
+    def test_so_many_differences_are_kept(self) -> None:
+        history = self.history(base.dump_of("merges"))
+        given = [None, *((b"/branches/two", rev) for rev in history.explicit.events(b"/branches/two"))]
+        with mock.patch.object(value_changes, "MOST_DIFFERENCES", 1):
+            found = [Differences(history).of(*pair) for pair in zip(given, given[1:])]
+            self.assertEqual(len(history.memo("differences")), 1)
+        self.assertEqual(found, [Differences(history).of(*pair) for pair in zip(given, given[1:])])
 
 
 class ShowRevs(base.Case):

@@ -15,24 +15,29 @@ from svnask.merges.value_changes import Difference, Differences, MalformedValue,
 from svnask.paths import Place, is_at_or_below, rest_below, tops_of
 from svnask.revisions import Revisions
 
-# Of how many places it is kept whether mergeinfo alone was changed there.
+# Of how many places it is kept for later questions whether mergeinfo alone was changed there.
 MOST_PLACES = 20000
 
 
-def is_mergeinfo_alone(history: OpenHistory, life: Life, rev: int) -> bool:
-    """Return whether a revision changed nothing but mergeinfo at and below a life, by its records. Of other properties
+class MergeinfoAlone:
+    """Tells whether revisions changed nothing but mergeinfo at and below a life, by their records. Of other properties
     that change along with it they say nothing."""
-    if life.first >= rev:
-        return False
-    known: dict[Place, bool] = history.memo("mergeinfo alone", MOST_PLACES)
-    if (life.path, rev) not in known:
-        changed = history.explicit.settings.get(rev, set())
-        known[life.path, rev] = all(
-            record.action == "change" and not record.has_text and record.path in changed
-            for record in history.records(rev, rev)
-            if is_at_or_below(record.path, life.path)
-        )
-    return known[life.path, rev]
+
+    def __init__(self, history: OpenHistory) -> None:
+        self._history = history
+        self._known: dict[Place, bool] = history.memo("mergeinfo alone", MOST_PLACES)
+
+    def is_so(self, life: Life, rev: int) -> bool:
+        if life.first >= rev:
+            return False
+        if (life.path, rev) not in self._known:
+            changed = self._history.explicit.settings.get(rev, set())
+            self._known[life.path, rev] = all(
+                record.action == "change" and not record.has_text and record.path in changed
+                for record in self._history.records(rev, rev)
+                if is_at_or_below(record.path, life.path)
+            )
+        return self._known[life.path, rev]
 
 
 # For each source path the revisions that were only recorded as merged.
@@ -51,7 +56,7 @@ class Recorded:
 
     def __init__(self, history: OpenHistory) -> None:
         self._history, self._explicit = history, history.explicit
-        self._values, self._differences = Values(), Differences(history)
+        self._values, self._differences, self._alone = Values(), Differences(history), MergeinfoAlone(history)
         self._known: dict[Place, Merged] = history.memo("recorded")
 
     def of(self, places: Iterable[Place]) -> list[Merged]:
@@ -88,7 +93,7 @@ class Recorded:
                 following = next(left, None)
             now = self._nearest(life.path, rev)
             if now != before:
-                change(found, self._difference(before, now), is_mergeinfo_alone(self._history, life, rev))
+                change(found, self._difference(before, now), self._alone.is_so(life, rev))
             before = now
         for each in (following, *left) if following is not None else ():
             self._known[life.path, each] = found

@@ -158,7 +158,7 @@ class Differences:
         found = None
         with contextlib.suppress(MalformedValue):
             found = self._values.difference(self._text(before), self._text(now))
-        if found is None or found.size() <= MOST_RANGES:
+        if len(self._known) < MOST_DIFFERENCES and (found is None or found.size() <= MOST_RANGES):
             self._known[before, now] = found
         return found
 

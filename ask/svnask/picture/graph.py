@@ -20,7 +20,7 @@ from svnask.history.open_history import OpenHistory
 from svnask.mergeinfo.values import value_of
 from svnask.merges import gains as merges
 from svnask.merges.gains import Gain, LifeQuery
-from svnask.merges.recorded import is_mergeinfo_alone
+from svnask.merges.recorded import MergeinfoAlone
 from svnask.merges.value_changes import Differences
 from svnask.paths import tops_of
 from svnask.projects import TAG, TRUNK, kind_of
@@ -374,7 +374,7 @@ class Merging:
     """Makes arrows of gains."""
 
     def __init__(self, history: OpenHistory, parts: Parts) -> None:
-        self._history, self._parts = history, parts
+        self._alone, self._parts = MergeinfoAlone(history), parts
 
     def merges(self, gains: Iterable[Gain], numbers: dict[Life, int]) -> Iterator[LaneMerge]:
         """The gains of lives that are in lanes, by the numbers of these, joined where lives are in one lane."""
@@ -383,7 +383,7 @@ class Merging:
             source, target = (numbers.get(self._parts.whole(life)) for life in (gain.source, gain.target))
             if source is not None and target is not None:
                 of, into = (life.path if life in self._parts.wholes else None for life in (gain.source, gain.target))
-                state = gain.lost, gain.is_carried, is_mergeinfo_alone(self._history, gain.target, gain.rev)
+                state = gain.lost, gain.is_carried, self._alone.is_so(gain.target, gain.rev)
                 key = source, target, gain.rev, *state, of, into
                 # Most merges have one gain, whose revisions are not copied.
                 before = found[key].revisions if key in found else ()
