@@ -17,6 +17,7 @@ QUICK = 10
 # The exit status of the program for a dump that it refuses.
 REFUSED = 1
 NOTHING, PIPE = Path(os.devnull), Path("/dev/stdin")
+OWN_PEAK = ROOT / "bench" / "own_peak.py"
 PIECE = 1 << 20
 # How often is measured what misses a limit: other work on the machine may have taken the time.
 ATTEMPTS = 4
@@ -60,6 +61,13 @@ class Setup:
     def svnask(self, *words: str | Path) -> Words:
         return self.python(SVNASK, *words)
 
+    def svnask_with_own_peak(self, *words: str | Path) -> Words:
+        """Return a command of svnask that prints, as its last line of errors, the kilobytes of Python alone."""
+        return self.python(OWN_PEAK, *words)
+
+    def own_megabytes(self, *words: str | Path) -> float:
+        return own_peak(command(self.svnask_with_own_peak(*words))()) / 1e6
+
 
 def command(words: Words, *, feeder: Words | None = None, status: int = 0, is_kept: bool = False) -> Run:
     """Return a run of a command that must end with this status. Output that is not kept goes to /dev/null."""
@@ -71,6 +79,11 @@ def command(words: Words, *, feeder: Words | None = None, status: int = 0, is_ke
         return taken
 
     return run
+
+
+def own_peak(taken: Measured) -> int:
+    """Return the bytes of Python alone, which a command of svnask has printed."""
+    return int(taken.outcome.errors.split()[-1]) * 1024
 
 
 def best_in_turns(

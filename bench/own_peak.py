@@ -5,6 +5,8 @@ usage: python3 own_peak.py SOURCE VERB ARGUMENT..
 
 The system's own figure has the memory of svnhist-live in it, and that of the process that started this one.
 """
+from __future__ import annotations
+
 import re
 import subprocess
 import sys
@@ -25,10 +27,15 @@ def in_no_file(process: int) -> int:
     return int(found[1]) if found else 0
 
 
-most = 0
-with subprocess.Popen([sys.executable, SVNASK, *sys.argv[1:]]) as child:
-    while child.poll() is None:
-        most = max(most, in_no_file(child.pid))
-        time.sleep(PAUSE)
-print(most, file=sys.stderr)
-sys.exit(child.returncode)
+def main() -> int:
+    most = 0
+    with subprocess.Popen([sys.executable, SVNASK, *sys.argv[1:]]) as child:
+        while child.poll() is None:
+            most = max(most, in_no_file(child.pid))
+            time.sleep(PAUSE)
+    print(most, file=sys.stderr)
+    return child.returncode
+
+
+if __name__ == "__main__":
+    sys.exit(main())

@@ -12,7 +12,6 @@ from bench.measure import Run, Setup, command, walls
 from bench.tables import Limited, Row, Table, Tables
 from dev.dumps import Revision, changed
 from dev.running import Measured
-from dev.tree import ROOT
 
 REVISIONS = 120000
 MOST_SECONDS, MOST_OF_LATER, MOST_MEGABYTES = 10.0, 8.0, 150.0
@@ -47,8 +46,7 @@ def measured(setup: Setup) -> Tables:
     command(setup.svnask(dump, "info"))()
     runs = {"": new_export(setup, dump, database)}
     seconds = walls(runs, setup.times, lambda found: found[""] <= MOST_SECONDS)[""]
-    words = setup.python(ROOT / "bench" / "own_peak.py", dump, "export", setup.folder / "other.db")
-    megabytes = int(command(words)().outcome.errors.split()[-1]) * 1024 / 1e6
+    megabytes = setup.own_megabytes(dump, "export", setup.folder / "other.db")
     later = walls({"": later_export(setup, dump, database, count)}, 1, lambda found: found[""] <= MOST_OF_LATER)[""]
     rows: list[Row] = [
         ["a new database", Limited(seconds, MOST_SECONDS), Limited(megabytes, MOST_MEGABYTES)],

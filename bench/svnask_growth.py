@@ -12,11 +12,10 @@ from functools import partial
 from pathlib import Path
 from typing import Callable, NamedTuple
 
-from bench.measure import PROCESSOR, Setup, best_in_turns
+from bench.measure import PROCESSOR, Setup, best_in_turns, own_peak
 from bench.tables import Limited, Row, Table, Tables
 from dev import shapes
 from dev.running import Failed, Measured, measure
-from dev.tree import ROOT
 from svnask.asking.verbs import HELP, verb_named
 
 SHAPES: dict[Callable[[int], bytes], int] = {
@@ -93,12 +92,11 @@ class Found(NamedTuple):
 
 def asked(setup: Setup, dump: Path, words: list[str]) -> Measured:
     """Measure a question, to which there may be no answer."""
-    program = ROOT / "bench" / "own_peak.py"
     (setup.folder / DATABASE).unlink(missing_ok=True)
-    taken = measure(setup.python(program, dump, *words), is_kept=False)
+    taken = measure(setup.svnask_with_own_peak(dump, *words), is_kept=False)
     if taken.outcome.status not in (0, 1):
         raise Failed(f"{words} of {dump.name} ended with {taken.outcome.shown()}")
-    return taken._replace(peak=int(taken.outcome.errors.split()[-1]) * 1024)
+    return taken._replace(peak=own_peak(taken))
 
 
 def found_of(setup: Setup, dumps: list[Path], words: list[str]) -> Found:

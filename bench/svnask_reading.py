@@ -41,8 +41,7 @@ class Commands:
 
     def peak(self) -> float:
         shutil.rmtree(self.setup.cache, ignore_errors=True)
-        words = self.setup.python(ROOT / "bench" / "own_peak.py", self.dump, "record", "1")
-        return int(command(words)().outcome.errors.split()[-1]) * 1024 / 1e6
+        return self.setup.own_megabytes(self.dump, "record", "1")
 
     def alone(self, count: int) -> Run:
         """Return a run of the program with so many logs of the trunk."""

@@ -21,7 +21,6 @@ from bench.subversion import Repository, load, loaded
 from bench.tables import ABSENT, Cell, Limited, Row, Table, Tables
 from dev.dumps import first_lines
 from dev.running import Measured, Words
-from dev.tree import ROOT
 
 REVISIONS, TEN = 12000, 10
 MOST_OF_LOG, MOST_OF_DUMP, MOST_OF_SERVED, MOST_BYTES, MOST_MEGABYTES, MOST_MORE = 4.0, 0.2, 0.4, 2.0, 60.0, 0.15
@@ -86,8 +85,7 @@ class Source:
     def peak(self) -> float:
         """Return the megabytes that Python takes at the first question."""
         shutil.rmtree(self.setup.cache, ignore_errors=True)
-        words = self.setup.python(ROOT / "bench" / "own_peak.py", self.source, "log", "-q", "-l", "1")
-        return int(command(words)().outcome.errors.split()[-1]) * 1024 / 1e6
+        return self.setup.own_megabytes(self.source, "log", "-q", "-l", "1")
 
     def log(self) -> Measured:
         return command(["svn", "log", "--xml", "-v", "-r", "0:HEAD", self.url])()

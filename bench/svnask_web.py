@@ -11,12 +11,13 @@ import threading
 import time
 from collections.abc import Iterator
 from concurrent.futures import ThreadPoolExecutor
-from contextlib import contextmanager, suppress
+from contextlib import contextmanager
 from http.client import HTTPConnection
 from pathlib import Path
 
 from bench.histories import branchy, write
 from bench.measure import Setup
+from bench.own_peak import in_no_file
 from bench.tables import Limited, Row, Table, Tables
 
 REVISIONS = 120000
@@ -48,9 +49,9 @@ class Server:
         found = re.search(rb"http://([^/]+)/", process.stdout.readline())
         assert found is not None
         self._place = found[1].decode("ascii")
-        self._status = Path(f"/proc/{process.pid}/status")
+        self._process = process
         self.most = 0.0
-        threading.Thread(target=self._watch, args=(process,), daemon=True).start()
+        threading.Thread(target=self._watch, daemon=True).start()
 
     def ask(self, address: str, count: int = 1) -> bytes:
         """Return the answer, the last one of several."""
@@ -67,15 +68,13 @@ class Server:
         return time.monotonic() - begun
 
     def megabytes(self) -> float:
-        """Return the memory of the server, without the pages of files, which the system takes back at need."""
-        found = re.search(r"RssAnon:\s+([0-9]+)", self._status.read_text("ascii"))
-        return int(found[1]) / 1e3 if found else 0.0
+        """Return the memory of the server that is in no file."""
+        return in_no_file(self._process.pid) / 1e3
 
-    def _watch(self, process: subprocess.Popen[bytes]) -> None:
-        with suppress(OSError):
-            while process.poll() is None:
-                self.most = max(self.most, self.megabytes())
-                time.sleep(0.05)
+    def _watch(self) -> None:
+        while self._process.poll() is None:
+            self.most = max(self.most, self.megabytes())
+            time.sleep(0.05)
 
 
 @contextmanager
