@@ -4,14 +4,17 @@ from __future__ import annotations
 import contextlib
 import io
 import itertools
+import json
 import os
+import re
 import signal
+import subprocess
 import sys
 import time
 from collections.abc import Iterator
 from pathlib import Path
 from random import Random
-from typing import Callable, NamedTuple, Union
+from typing import Any, Callable, NamedTuple, Union
 from unittest import mock
 
 from dev import running
@@ -25,6 +28,7 @@ from tests.lots import check_drawn
 Word = Union[str, Path]
 ENDING = (signal.SIGINT, signal.SIGTERM, signal.SIGHUP)
 NOTHING = Path(os.devnull)
+HEAD_OF_ENTRY = re.compile(rb"^r([0-9]+) \|", re.MULTILINE)
 
 
 class Done(NamedTuple):
@@ -33,6 +37,11 @@ class Done(NamedTuple):
     status: int | None
     output: bytes
     said: str
+
+    @property
+    def objects(self) -> list[dict[str, Any]]:
+        """The objects that were printed, one on each line."""
+        return [json.loads(line) for line in self.output.splitlines()]
 
 
 def dump_of(name: str) -> Path:
@@ -79,6 +88,22 @@ def called(*words: Word, **variables: str) -> Done:
             signal.signal(number, handler)
     output.flush()
     return Done(status, written.getvalue(), said.getvalue())
+
+
+def objects(*words: Word) -> list[dict[str, Any]]:
+    """Return the objects of a question."""
+    return called("--json", *words).objects
+
+
+@contextlib.contextmanager
+def serving(*words: Word) -> Iterator[bytes]:
+    """Serve a source while the block runs, which gets the line that the server prints."""
+    with subprocess.Popen(command(*words, "serve"), stdout=subprocess.PIPE) as server:
+        assert server.stdout is not None
+        try:
+            yield server.stdout.readline()
+        finally:
+            assert called(*words, "stop").status == 0
 
 
 @contextlib.contextmanager
@@ -141,6 +166,23 @@ class Case(UtcTest, ProgramTest):
         os.environ["SVNHIST_LIVE"] = str(self.programs.svnhist_live)
         self.histories = contextlib.ExitStack()
         self.addCleanup(self.histories.close)
+
+    def asked(self, *words: Word) -> bytes:
+        """Return what a question prints, which has an answer and about which nothing is said."""
+        done = called(*words)
+        self.assertEqual((done.status, done.said), (0, ""), words)
+        return done.output
+
+    def revisions(self, dump: Word, *words: str) -> list[int]:
+        """Return the revisions that a log prints."""
+        return [int(rev) for rev in HEAD_OF_ENTRY.findall(self.asked(dump, "log", *words))]
+
+    def check_unanswered(self, status: int, said: str, *words: Word) -> Done:
+        """Check that a question has no answer, and what is said in place of one."""
+        done = called(*words)
+        self.assertEqual((done.status, done.output), (status, b""), (words, done.said))
+        self.assertIn(said, done.said, words)
+        return done
 
     def script(self, name: str, *lines: str) -> str:
         """The path of a shell script."""

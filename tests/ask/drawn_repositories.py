@@ -21,34 +21,9 @@ from dev.dumps import (
     section,
 )
 
-PATHS = (
-    b"trunk",
-    b"trunk/a",
-    b"trunk/a/b",
-    b"trunk/f",
-    b"trunk/a/g",
-    b"b",
-    b"b/one",
-    b"b/two",
-    b"b/one/a",
-    b"t",
-    b"t/x",
-)
+PATHS = b"trunk trunk/a trunk/a/b trunk/f trunk/a/g b b/one b/two b/one/a t t/x".split()
 AUTHORS = (b"alice", b"bob", b"J\xc3\xb6rg", b"", b"ann<&>'\"", b"a\x01b", None)
-WORDS = (
-    b"Merge",
-    b"fix",
-    b"Caf\xc3\xa9",
-    b"R\xc3\x89SUM\xc3\x89",
-    b"[x]",
-    b"a*b",
-    b"\n",
-    b"\r\n",
-    b"<&>\"'",
-    b"\x7f",
-    b"\t",
-    b"r3",
-)
+WORDS = (*b"Merge fix Caf\xc3\xa9 R\xc3\x89SUM\xc3\x89 [x] a*b <&>\"' \x7f r3".split(), b"\n", b"\r\n", b"\t")
 DATES = (b"2024-01-%02dT00:00:00.000000Z", b"", b"soon %d", None)
 MALFORMED = (b"no colon", b"/trunk:0", b"/b/one:5-3", b"/trunk:1\n\n", b"/trunk:", b"/trunk:3-5,4*")
 MOST_PATHS = 40

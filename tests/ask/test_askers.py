@@ -57,20 +57,14 @@ class Askers(base.Case):
     def test_a_server_answers_who_started_it(self) -> None:
         with grown.svnserve(self.parent, "none", self.rules) as server:
             url = f"{server}/repository"
-            words = base.command(*user("bob"), url, "serve")
-            with subprocess.Popen(words, stdout=subprocess.PIPE) as serving:
-                try:
-                    assert serving.stdout is not None
-                    wanted = f"serving {url} --username=bob\n"
-                    self.assertEqual(serving.stdout.readline().decode(), wanted)
-                    for name, is_asked in (("bob", True), ("alice", False)):
-                        reply = client.ask_server([*user(name), url, "log", "-v"])
-                        self.assertEqual(reply is not None, is_asked, name)
-                        if reply is not None:
-                            os.close(reply.output)
-                        self.check(name, url, "log", "-v")
-                finally:
-                    self.assertEqual(base.called(*user("bob"), url, "stop").status, 0)
+            with base.serving(*user("bob"), url) as line:
+                self.assertEqual(line.decode(), f"serving {url} --username=bob\n")
+                for name, is_asked in (("bob", True), ("alice", False)):
+                    reply = client.ask_server([*user(name), url, "log", "-v"])
+                    self.assertEqual(reply is not None, is_asked, name)
+                    if reply is not None:
+                        os.close(reply.output)
+                    self.check(name, url, "log", "-v")
 
     def test_what_was_hidden_is_read_when_it_is_shown(self) -> None:
         with grown.svnserve(self.parent, "none", self.rules) as server:
@@ -158,18 +152,13 @@ class Messages(base.Case):
             self.assertEqual(history.revision(1).message, b"New")
 
     def test_in_a_server(self) -> None:
-        with subprocess.Popen(base.command(self.repository, "serve"), stdout=subprocess.PIPE) as serving:
-            try:
-                assert serving.stdout is not None
-                self.assertTrue(serving.stdout.readline().startswith(b"serving "))
-                for message in (b"Old", b"New"):
-                    reply = client.ask_server([str(self.repository), "log", "-r", "1"])
-                    assert reply is not None
-                    with open(reply.output, "rb") as output:
-                        self.assertIn(message, output.read())
-                    self.reword()
-            finally:
-                self.assertEqual(base.called(self.repository, "stop").status, 0)
+        with base.serving(self.repository):
+            for message in (b"Old", b"New"):
+                reply = client.ask_server([str(self.repository), "log", "-r", "1"])
+                assert reply is not None
+                with open(reply.output, "rb") as output:
+                    self.assertIn(message, output.read())
+                self.reword()
 
     def test_in_a_shell(self) -> None:
         words = base.command(self.repository, "shell")

@@ -118,14 +118,10 @@ class Migrated(base.Case):
 
     def test_nothing_to_compare_is_no_success(self) -> None:
         self.assertEqual(run(["git", "init", "-q", self.folder / "empty"]).status, 0)
-        done = base.called(base.dump_of("renames"), "check-git", self.folder / "empty")
-        self.assertEqual((done.status, done.output), (1, b""))
-        self.assertIn("E160013", done.said)
+        self.check_unanswered(1, "E160013", base.dump_of("renames"), "check-git", self.folder / "empty")
         self.assertEqual(
             base.called(base.dump_of("merges"), "check-git", self.folder / "empty").output.count(b"ref\t"), 4
         )
 
     def test_what_git_says_is_told(self) -> None:
-        done = base.called(base.dump_of("merges"), "check-git", self.folder / "none")
-        self.assertEqual((done.status, done.output), (3, b""))
-        self.assertIn("git for-each-ref failed", done.said)
+        self.check_unanswered(3, "git for-each-ref failed", base.dump_of("merges"), "check-git", self.folder / "none")

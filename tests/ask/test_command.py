@@ -94,8 +94,7 @@ class Command(base.Case):
         self.assertEqual(base.called(dump, "log", "-q", "-c", "", "trunk").output, whole)
         self.assertEqual(base.called(dump, "log", "-q", "-c", "", "3").status, 1)
         self.assertIn("''", base.called(dump, "log", "-q", "-r", "", "trunk").said)
-        done = base.called(dump, "graph", "-o", "", kept)
-        self.assertEqual((done.status, done.output), (2, b""))
+        self.check_unanswered(2, "", dump, "graph", "-o", "", kept)
         self.assertEqual(kept.read_bytes(), b"precious")
 
     def test_options_are_written_as_for_svn(self) -> None:
@@ -120,9 +119,7 @@ class Command(base.Case):
 
     def test_a_folder_that_is_no_repository_is_no_source(self) -> None:
         (self.folder / "db").mkdir()
-        done = base.run(self.folder, "info")
-        self.assertEqual((done.status, done.output), (3, b""))
-        self.assertIn("is a directory, but no repository and no working copy", done.said)
+        self.check_unanswered(3, "is a directory, but no repository and no working copy", self.folder, "info")
 
     def test_what_is_missing_is_named(self) -> None:
         rows: tuple[tuple[list[base.Word], str], ...] = (
@@ -135,9 +132,7 @@ class Command(base.Case):
             (["sources", "more"], "there is no verb 'more'"),
         )
         for words, said in rows:
-            done = base.run(*words)
-            self.assertEqual((done.status, done.output), (2, b""), words)
-            self.assertIn(said, done.said)
+            self.check_unanswered(2, said, *words)
 
     def test_a_dump_may_have_the_name_of_a_verb(self) -> None:
         self.made("log", DUMP.read_bytes())
@@ -165,9 +160,7 @@ class Command(base.Case):
         )
         # fmt: on
         for words, code in rows:
-            done = base.run(DUMP, *words.split())
-            self.assertEqual((done.status, done.output), (1, b""), words)
-            self.assertTrue(done.said.startswith("svnask: %s: " % code), done.said)
+            self.check_unanswered(1, "svnask: %s: " % code, DUMP, *words.split())
 
     def test_input_that_is_no_dump_is_named(self) -> None:
         whole = DUMP.read_bytes()
@@ -181,9 +174,7 @@ class Command(base.Case):
             (b"\xef\xbb\xbf" + whole, "byte order"),
             (b"hello", "no dump"),
         ):
-            done = base.run(self.made("other", content), "info")
-            self.assertEqual((done.status, done.output), (1, b""))
-            self.assertIn(word, done.said)
+            self.check_unanswered(1, word, self.made("other", content), "info")
 
     def test_a_part_of_a_dump_is_named(self) -> None:
         whole = DUMP.read_bytes()
@@ -194,9 +185,7 @@ class Command(base.Case):
             "segments none; unmerged; heirs none; new none trunk@13; check-mergeinfo; propget svn:mergeinfo none; "
             "mergeinfo trunk none; log -g trunk@13; log --xml; log --search x; log / none; unmerged --log /**"
         ):
-            done = base.called(part_of_dump, *words)
-            self.assertEqual((done.status, done.output), (1, b""), words)
-            self.assertIn("from revision 5 on", done.said, words)
+            self.check_unanswered(1, "from revision 5 on", part_of_dump, *words)
 
     def test_of_a_dump_that_is_refused_nothing_else_is_said(self) -> None:
         dump = self.made("faulty", faulty())
@@ -208,9 +197,7 @@ class Command(base.Case):
             "log --search \udcff"
         )
         for words in (*asked, ["ask", str(self.made("queries", b""))]):
-            done = base.called(dump, *words)
-            self.assertEqual((done.status, done.output), (1, b""), words)
-            self.assertIn("dump refused: 16 NoParent at record", done.said, words)
+            self.check_unanswered(1, "dump refused: 16 NoParent at record", dump, *words)
 
     def test_a_faulty_record_is_described(self) -> None:
         done = base.run(self.made("faulty", faulty()), "log")
@@ -225,8 +212,7 @@ class Command(base.Case):
     def test_a_dump_that_is_refused_has_no_answers(self) -> None:
         dump = self.made("faulty", faulty())
         for words in all_but(OF_DUMP):
-            done = base.run(dump, *words)
-            self.assertEqual((done.status, done.output), (1, b""), words)
+            self.check_unanswered(1, "", dump, *words)
 
     def test_what_stands_at_a_byte_and_at_a_record(self) -> None:
         record = base.run(DUMP, "record", "3").output

@@ -1,7 +1,6 @@
 """`export`: the database has what the verbs say, and gets what is new."""
 from __future__ import annotations
 
-import json
 import os
 import re
 import sqlite3
@@ -48,15 +47,12 @@ class Exported(base.Case):
     def whole(self, path: Path) -> dict[str, list[tuple[Any, ...]]]:
         return {table: rows(path, f"SELECT * FROM {table} ORDER BY 1, 2") for table in TABLES}
 
-    def objects(self, dump: Path, *words: str) -> list[dict[str, Any]]:
-        return [json.loads(line) for line in base.called("--json", dump, *words).output.splitlines()]
-
     def check_holders(self, dump: Path, path: Path, revs: Iterable[int]) -> None:
         """Compare which branches and tags have a revision with what `contains` says."""
         for rev in revs:
             wanted = sorted(
                 (each["path"], "merged" if each["how"] == "merged in part" else each["how"])
-                for each in self.objects(dump, "contains", str(rev))
+                for each in base.objects(dump, "contains", str(rev))
             )
             self.assertEqual(sorted(holders_in(path, rev).items()), wanted, (dump.name, rev))
 
@@ -64,42 +60,42 @@ class Exported(base.Case):
         dump = base.dump_of("merges")
         path = self.exported(dump)
         self.check_holders(dump, path, range(1, 20))
-        listed = [(each["path"], each["first"], each["last"]) for each in self.objects(dump, "branches")]
+        listed = [(each["path"], each["first"], each["last"]) for each in base.objects(dump, "branches")]
         self.assertEqual(rows(path, "SELECT path, first, last FROM branch ORDER BY 1, 2"), sorted(listed))
-        left = [(each["path"], each["revision"]) for each in self.objects(dump, "unmerged")]
+        left = [(each["path"], each["revision"]) for each in base.objects(dump, "unmerged")]
         question = "SELECT path, revision FROM unmerged JOIN branch ON id = branch ORDER BY 1, 2"
         self.assertEqual(rows(path, question), sorted(left))
         changes = [
             (each["revision"], change["path"], change["action"], change["kind"])
-            for each in self.objects(dump, "log", "-v")
+            for each in base.objects(dump, "log", "-v")
             for change in each["changes"]
         ]
         self.assertEqual(rows(path, "SELECT revision, path, action, kind FROM change ORDER BY 1, 2"), sorted(changes))
-        messages = [(each["revision"], each["author"], each["message"]) for each in self.objects(dump, "log")]
+        messages = [(each["revision"], each["author"], each["message"]) for each in base.objects(dump, "log")]
         question = "SELECT number, author, message FROM revision WHERE number ORDER BY 1 DESC"
         self.assertEqual(rows(path, question), messages)
 
     def test_the_questions_of_the_page(self) -> None:
         dump = base.dump_of("merges")
         path = self.exported(dump)
-        lanes = {each["lane"]: each["lives"][-1]["path"] for each in self.objects(dump, "graph") if "lives" in each}
-        merges = [each for each in self.objects(dump, "graph") if each["type"] == "merge" and not each["into"]]
-        listed = self.objects(dump, "branches", "--log")
+        lanes = {each["lane"]: each["lives"][-1]["path"] for each in base.objects(dump, "graph") if "lives" in each}
+        merges = [each for each in base.objects(dump, "graph") if each["type"] == "merge" and not each["into"]]
+        listed = base.objects(dump, "branches", "--log")
         wanted: list[list[tuple[Any, ...]]] = [
-            [(each["path"],) for each in self.objects(dump, "contains", "5") if each["how"] == "history"],
+            [(each["path"],) for each in base.objects(dump, "contains", "5") if each["how"] == "history"],
             [(lanes[each["lane"]], each["revision"]) for each in merges if 5 in each["merged"] and not each["lost"]],
-            list(Counter(each["path"] for each in self.objects(dump, "unmerged")).items()),
-            list(Counter(each["author"] for each in self.objects(dump, "log", "trunk/dir/in")).items()),
-            [(each["revision"],) for each in self.objects(dump, *"log --search bob --search-and merge".split())],
+            list(Counter(each["path"] for each in base.objects(dump, "unmerged")).items()),
+            list(Counter(each["author"] for each in base.objects(dump, "log", "trunk/dir/in")).items()),
+            [(each["revision"],) for each in base.objects(dump, *"log --search bob --search-and merge".split())],
             [
                 (each["author"], each["first"], each["last"])
-                for each in self.objects(dump, "migration")
+                for each in base.objects(dump, "migration")
                 if each["type"] == "author"
             ],
             [(each["path"], each["last_change"]) for each in listed],
             [(each["path"],) for each in listed if each.get("from", {"revision": 5})["revision"] < 5],
             [(each["revision"], lanes[each["lane"]]) for each in merges if each["is_record_only"]],
-            [(13, each["value"]) for each in self.objects(dump, "propget", "svn:mergeinfo", "branches/two@14")],
+            [(13, each["value"]) for each in base.objects(dump, "propget", "svn:mergeinfo", "branches/two@14")],
         ]
         asked = re.findall(r'^\$ sqlite3 merges\.db "(.*)"$', (DOCS / "svnask.md").read_text(), re.MULTILINE)
         self.assertEqual(len(asked), len(wanted))
@@ -112,7 +108,7 @@ class Exported(base.Case):
             path = self.exported(dump, f"{name}.db")
             wanted = [
                 (each["path"], rev)
-                for each in self.objects(dump, "changed-tags")
+                for each in base.objects(dump, "changed-tags")
                 for rev in each["changed"]
                 if rev > each["first"]
             ]

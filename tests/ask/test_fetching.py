@@ -3,7 +3,6 @@ from __future__ import annotations
 
 import contextlib
 import io
-import json
 import os
 import random
 import signal
@@ -135,8 +134,7 @@ class Hidden(Case):
         )
         rules = self.made("rules", b"[/]\n* = r\n[/secret]\n* =\n")
         with grown.svnserve(self.parent, "read", rules) as server:
-            done = base.called(f"{server}/repository", "log", "-v", "-q")
-            self.assertEqual((done.status, done.said), (0, ""))
+            self.asked(f"{server}/repository", "log", "-v", "-q")
             with History.open(f"{server}/repository") as history:
                 found = [(each.action, each.path, each.source, each.mergeinfo) for each in history.records(3, 3)]
         self.assertEqual(
@@ -194,9 +192,7 @@ class Log(Case):
 
     def test_records_and_bytes_are_those_of_dumps(self) -> None:
         for words in (["record", "1"], ["byte", "5"]):
-            done = base.called(self.made_of, *words)
-            self.assertEqual((done.status, done.output), (2, b""), words)
-            self.assertIn("are for a dump", done.said)
+            self.check_unanswered(2, "are for a dump", self.made_of, *words)
 
     def test_two_runs_at_once_ask_for_one_log(self) -> None:
         line = f'case "$*" in *" -v "*) echo >> {self.folder}/asked; sleep 1 ;; esac'
@@ -234,8 +230,8 @@ main.answer()
                 with contextlib.suppress(subprocess.TimeoutExpired):
                     child.wait(chance.uniform(0.1, 0.5))
                 child.send_signal(chance.choice((signal.SIGKILL, signal.SIGTERM, signal.SIGINT)))
-            done = base.called(repository, "--json", "info", "--offline")
-            head = json.loads(done.output)["youngest"] if done.status == 0 else -1
+            found = base.objects(repository, "info", "--offline")
+            head = found[0]["youngest"] if found else -1
             self.assertGreaterEqual(head, before, turn)
             before = head
             if child.returncode == 0:

@@ -516,8 +516,7 @@ class Verb(base.Case):
             self.assertEqual(done.status, status, (words, done.said))
             self.assertIn(said, done.said)
             self.assertEqual(bool(done.output), status == 0)
-        lines = base.called(dump, "graph", "--since", "14", "--json").output.splitlines()
-        objects = [json.loads(line) for line in lines]
+        objects = base.objects(dump, "graph", "--since", "14")
         self.assertEqual([each["revision"] for each in objects if each["type"] == "merge"], [15, 19])
         self.assertEqual(
             [(each["lives"][0]["path"], each["revisions"]) for each in objects if each["type"] == "lane"],
@@ -525,8 +524,7 @@ class Verb(base.Case):
         )
 
     def test_objects(self) -> None:
-        lines = base.run(base.dump_of("merges"), "graph", "--json").output.splitlines()
-        objects = [json.loads(line) for line in lines]
+        objects = base.objects(base.dump_of("merges"), "graph")
         self.assertEqual([each["type"] for each in objects], ["lane"] * 4 + ["copy"] * 3 + ["merge"] * 7)
         self.assertEqual(
             objects[7],
@@ -549,8 +547,7 @@ class Verb(base.Case):
             [("/trunk/dir", "/branches/two/dir")],
         )
         for words in (["-o", "x"], ["--by-time"], ["--width", "900"], ["--height", "900"], ["--unfolded"]):
-            done = base.called(base.dump_of("merges"), "graph", "--json", *words)
-            self.assertEqual((done.status, done.output), (2, b""), words)
+            self.check_unanswered(2, "", base.dump_of("merges"), "graph", "--json", *words)
 
 
 class Fitted(base.Case):

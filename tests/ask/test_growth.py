@@ -1,7 +1,6 @@
 """What is kept of a source grows with it: the answers are those of the whole, whatever happens meanwhile."""
 from __future__ import annotations
 
-import json
 import os
 import resource
 import signal
@@ -54,12 +53,6 @@ class Case(base.Case):
 
     def repository(self, name: str = "branches", count: int = 5, place: str = "repository") -> grown.Grown:
         return grown.Grown(self.folder / place, base.content_of(name), count)
-
-    def asked(self, *words: base.Word) -> bytes:
-        """Return what a question prints, which has an answer."""
-        done = base.called(*words)
-        self.assertEqual((done.status, done.said), (0, ""), words)
-        return done.output
 
     def whole(self, source: base.Word) -> bytes:
         """All that is known of a source."""
@@ -250,9 +243,7 @@ class Another(Case):
         piece = grown.svn("svnadmin", "dump", "-q", "--incremental", "-r", "4:4", made.folder).output
         with open(dump, "ab") as file:
             file.write(piece)
-        done = base.called(dump, "info")
-        self.assertEqual((done.status, done.output), (1, b""))
-        self.assertIn("dump refused: 7 BadRecord at byte %d" % len(made.dump()), done.said)
+        self.check_unanswered(1, "dump refused: 7 BadRecord at byte %d" % len(made.dump()), dump, "info")
 
 
 class Cut(Case):
@@ -300,13 +291,10 @@ class Cut(Case):
             half = self.made("half", log[:at])
             base.called(made.folder, "forget")
             with grown.instead_of(self.folder, "log", f'cat {half}; echo "svn: E000005: no luck" >&2; exit 1'):
-                done = base.called(made.folder, "info")
-                self.assertEqual((done.status, done.output), (1, b""), done)
-                self.assertTrue(done.said.startswith("svnask: E000005: no luck\n"), done)
+                done = self.check_unanswered(1, "svnask: E000005: no luck\n", made.folder, "info")
                 kept = base.called(made.folder, "--json", "info", "--offline")
             self.assertEqual((kept.status, "--offline" in done.said), (0, True) if whole else (1, False), at)
-            if kept.status == 0:
-                self.assertEqual(json.loads(kept.output)["youngest"], whole)
+            self.assertEqual([each["youngest"] for each in kept.objects], [whole] if whole else [])
             self.check_whole(made.folder, dump)
 
     def test_a_full_disk(self) -> None:
@@ -374,9 +362,7 @@ class Kept(Case):
         dump = self.made("dump", made.dump())
         asked = [*made.sources, dump]
         for source in asked:
-            done = base.called(source, "info", "--offline")
-            self.assertEqual((done.status, done.output), (1, b""))
-            self.assertIn("nothing is kept of", done.said)
+            self.check_unanswered(1, "nothing is kept of", source, "info", "--offline")
             self.asked(source, "info")
         grown.svn("rm", "-r", made.folder, dump)
         made.folder.mkdir()
@@ -394,8 +380,7 @@ class Kept(Case):
         self.assertEqual(self.asked("sources", "--json").count(b'"last_use"'), 3)
         for source in (str(made.folder), made.url + "/trunk", str(base.dump_of("names"))):
             self.assertEqual(self.asked(source, "forget"), b"")
-            done = base.called(source, "forget")
-            self.assertEqual((done.status, done.output), (1, b""))
+            self.check_unanswered(1, "", source, "forget")
         self.assertEqual(os.listdir(self.cache / "svnhist"), [])
         self.assertEqual(base.called(made.folder, "sources").status, 2)
 

@@ -1,7 +1,6 @@
 """`heirs`, beside `locate` of each path of the later revision."""
 from __future__ import annotations
 
-import json
 from collections.abc import Iterator
 from pathlib import Path
 
@@ -79,9 +78,8 @@ class Heirs(base.Case):
         lines = done.output.decode().splitlines()
         self.assertEqual(lines[0], "/branches/lib/util.c\tr7 from /trunk/lib/util.c@6")
         self.assertEqual(lines[-1], "/trunk/lib/util.c\titself")
-        moved = base.called("--json", base.dump_of("again"), "heirs", "trunk@3")
-        for line in moved.output.splitlines():
-            self.assertEqual(set(json.loads(line)), {"path", "way"})
+        for each in base.objects(base.dump_of("again"), "heirs", "trunk@3"):
+            self.assertEqual(set(each), {"path", "way"})
 
     def test_refusals(self) -> None:
         dump = base.dump_of("branches")

@@ -61,9 +61,7 @@ class Layouts(base.Case):
     def test_a_history_that_doubles_is_refused(self) -> None:
         changes = [[added(b"trunk")], *([copied(b"x%d" % rev, b"", rev)] for rev in range(1, 40))]
         dump = self.made("dump", dump_of(*changes))
-        done = base.called(dump, "branches")
-        self.assertEqual((done.status, done.output), (1, b""))
-        self.assertTrue(done.said.startswith("svnask: there are more than 100000 folders"), done.said)
+        self.check_unanswered(1, "svnask: there are more than 100000 folders", dump, "branches")
 
     def test_nothing_is_said_to_be_nothing(self) -> None:
         dump = self.made("dump", dump_of([added(b"a"), added(b"a/f", FILE)]))

@@ -1,7 +1,6 @@
 """Lives of branches and tags."""
 from __future__ import annotations
 
-import json
 import os
 from pathlib import Path
 
@@ -72,9 +71,7 @@ class Branches(base.Case):
         )
 
     def paths(self, *words: str) -> list[str]:
-        done = base.called(self.repository(), "branches", *words)
-        self.assertEqual((done.status, done.said), (0, ""))
-        return [line.split("\t")[0] for line in done.output.decode().splitlines()]
+        return [line.split("\t")[0] for line in self.asked(self.repository(), "branches", *words).decode().splitlines()]
 
     def test_a_copy_of_a_branch_is_a_branch(self) -> None:
         # fmt: off
@@ -97,9 +94,7 @@ class Branches(base.Case):
     def test_patterns_that_match_nothing(self) -> None:
         dump = self.repository()
         for verb in (["branches"], ["unmerged"], ["contains", "2"], ["changed-tags"], ["graph"]):
-            done = base.called(dump, *verb, "branches/relase-1.x")
-            self.assertEqual((done.status, done.output), (1, b""), verb)
-            self.assertIn("E160013", done.said)
+            self.check_unanswered(1, "E160013", dump, *verb, "branches/relase-1.x")
             done = base.called(dump, *verb, "branches/rel*")
             self.assertEqual((done.status, done.said), (0, "svnask: no path matches '/branches/rel*'\n"), verb)
 
@@ -109,8 +104,7 @@ class Branches(base.Case):
         self.assertEqual(
             lines[0], b"/trunk\tr11\tcarol\t2024-01-01 00:11:00 +0000 (Mon, 01 Jan 2024)\tMerge the branch back"
         )
-        done = base.called("--json", dump, "unmerged", "/trunk", "--into", "branches/two")
-        found = [json.loads(line) for line in done.output.splitlines()]
+        found = base.objects(dump, "unmerged", "/trunk", "--into", "branches/two")
         self.assertEqual(
             [(each["path"], each["revision"], each["partial"], each["recorded"]) for each in found],
             [("/trunk", rev, False, rev == 6) for rev in (6, 11, 12, 14)],

@@ -1,7 +1,6 @@
 """`log`: its ranges, and where it stops."""
 from __future__ import annotations
 
-from pathlib import Path
 
 from dev.dumps import FILE, Dump, Revision, added, changed, copied, deleted, dump_of
 from svnask.branches import questions as branches
@@ -21,12 +20,6 @@ RENEWED = dump_of(
 
 
 class Log(base.Case):
-    def revisions(self, dump: Path, *words: str) -> list[int]:
-        """The revisions that are printed."""
-        done = base.called(dump, "log", "-q", *words)
-        self.assertEqual((done.status, done.said), (0, ""), words)
-        return [int(line.split()[0][1:]) for line in done.output.splitlines() if line.startswith(b"r")]
-
     def test_what_follows_a_nul_is_left_out(self) -> None:
         given = {b"svn:author": b"alice", b"svn:date": b"2024-01-01T00:00:00.000000Z", b"svn:log": b"message"}
         cut = [given, *({**given, name: value + b"\0more"} for name, value in given.items())]
@@ -104,9 +97,7 @@ class Log(base.Case):
             base.called(dump, "log", "-q", "branches@5", "--targets", self.made("one", b"one\n")).output, several
         )
         self.assertEqual(base.called(dump, "log", "branches", "--targets", targets).status, 1)
-        done = base.called(dump, "log", "--diff", "trunk")
-        self.assertEqual((done.status, done.output), (2, b""))
-        self.assertIn("svnask has no contents of files", done.said)
+        self.check_unanswered(2, "svnask has no contents of files", dump, "log", "--diff", "trunk")
 
     def test_ranges_are_printed_one_after_another(self) -> None:
         """As `svn` 1.14 printed it of the repository."""

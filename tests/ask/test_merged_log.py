@@ -1,7 +1,6 @@
 """`log -g`, paths below a target, and `propget`. What they print stands beside that of `svn` in `test_beside_svn.py`."""
 from __future__ import annotations
 
-import json
 from pathlib import Path
 from unittest import mock
 
@@ -77,8 +76,7 @@ class MergedLog(base.Case):
             [setting(b"trunk", b"/b/f:9\n/b/g:8\n/b/h:4\n/b/i:3")],
         )
         # fmt: on
-        done = base.called(self.made("dump", dump), "log", "-g", "--json", "-c", "10", "trunk")
-        found = [json.loads(line) for line in done.output.splitlines()]
+        found = base.objects(self.made("dump", dump), "log", "-g", "-c", "10", "trunk")
         # What svn 1.14 prints of it: r5 was walked before as a revision of r9, and is not walked again for r8.
         self.assertEqual(
             [(each["revision"], each["merged_via"]) for each in found],
@@ -86,8 +84,7 @@ class MergedLog(base.Case):
         )
 
     def test_objects_say_by_what_a_revision_was_merged(self) -> None:
-        done = base.called(base.dump_of("merges"), "log", "-g", "--json", "-r", "8", "branches/two")
-        found = [json.loads(line) for line in done.output.splitlines()]
+        found = base.objects(base.dump_of("merges"), "log", "-g", "-r", "8", "branches/two")
         self.assertEqual(
             [(each["revision"], each["merged_via"], each["is_reverse"]) for each in found],
             [(8, [], False), (5, [8], False)],
@@ -156,10 +153,7 @@ class MergedLog(base.Case):
         )
         # fmt: on
         for words, wanted in rows:
-            done = base.called(base.dump_of("branches"), "log", *words.split())
-            self.assertEqual((done.status, done.said), (0, ""), words)
-            found = [int(line.split()[0][1:]) for line in done.output.splitlines() if line.startswith(b"r")]
-            self.assertEqual(found, wanted, words)
+            self.assertEqual(self.revisions(base.dump_of("branches"), *words.split()), wanted, words)
         # fmt: off
         refused = (
             ("trunk /lib", "E205000"), ("trunk file:///x", "E205000"), ("trunk none", "E160013"), ("trunk main.c/x", "E160013"),

@@ -160,9 +160,7 @@ class Kept(base.Case):
 
 class ShowRevs(base.Case):
     def shown(self, name: str, *words: str) -> list[str]:
-        done = base.called(base.dump_of(name), "mergeinfo", "--show-revs", *words)
-        self.assertEqual((done.status, done.said), (0, ""), words)
-        return done.output.decode().split()
+        return self.asked(base.dump_of(name), "mergeinfo", "--show-revs", *words).decode().split()
 
     def test_what_was_merged_is_what_svnhist_says(self) -> None:
         """Another answer of svnhist is another answer of svnask."""

@@ -1,8 +1,6 @@
 """`migration`: authors, projects, names in git, revisions of several branches, merges."""
 from __future__ import annotations
 
-import json
-from typing import Any
 
 from dev.dumps import FILE, Dump, Revision, added, changed, copied, deleted, dump_of, mergeinfo
 from svnask.export.migration import name_in_git, reason_against
@@ -11,9 +9,7 @@ from tests.ask import base
 
 class Migrations(base.Case):
     def lines(self, *words: base.Word, larger: str = "") -> list[str]:
-        done = base.called(*words, "migration", *["--larger", larger] * bool(larger))
-        self.assertEqual((done.status, done.said), (0, ""))
-        return done.output.decode().splitlines()
+        return self.asked(*words, "migration", *["--larger", larger] * bool(larger)).decode().splitlines()
 
     def test_merges_as_git_shows_them(self) -> None:
         found = [line.split("\t") for line in self.lines(base.dump_of("merges")) if line.startswith("merge")]
@@ -69,10 +65,7 @@ class Migrations(base.Case):
         kinds = ("outside", "empty", "large")
         found = [line.split("\t") for line in self.lines(dump, larger="1000")]
         self.assertEqual([fields for fields in found if fields[0] in kinds], wanted)
-        objects = [
-            json.loads(line)
-            for line in base.called("--json", dump, "migration", "--larger", "1000").output.splitlines()
-        ]
+        objects = base.objects(dump, "migration", "--larger", "1000")
         self.assertEqual(
             [[each["type"], each["path"]] for each in objects if each["type"] in kinds], [each[:2] for each in wanted]
         )
@@ -109,16 +102,13 @@ class Migrations(base.Case):
 
     def test_authors_and_projects(self) -> None:
         dump = base.dump_of("projects")
-        objects: list[dict[str, Any]] = [
-            json.loads(line) for line in base.called("--json", dump, "migration").output.splitlines()
-        ]
-        authors = [json.loads(line)["author"] for line in base.called("--json", dump, "log").output.splitlines()]
+        objects = base.objects(dump, "migration")
+        authors = [each["author"] for each in base.objects(dump, "log")]
         for each in objects:
             if each["type"] == "author":
                 self.assertEqual(each["revisions"], authors.count(each["author"]))
         folders = [each["path"] for each in objects if each["type"] == "project"]
         self.assertEqual(folders, ["/alpha", "/beta", "/delta", "/group/gamma"])
         lives = {(each["path"], each["first"]) for each in objects if each["type"] in ("trunk", "branch", "tag")}
-        listed = [json.loads(line) for line in base.called("--json", dump, "branches").output.splitlines()]
-        self.assertEqual(lives, {(each["path"], each["first"]) for each in listed})
+        self.assertEqual(lives, {(each["path"], each["first"]) for each in base.objects(dump, "branches")})
         self.assertEqual(base.called(dump, "migration", "--authors-file").output.count(b" = "), 3)

@@ -2,7 +2,6 @@
 from __future__ import annotations
 
 import itertools
-import json
 from concurrent.futures import ThreadPoolExecutor
 from pathlib import Path
 from random import Random
@@ -78,29 +77,28 @@ class Threads(base.Case):
                 self.assertEqual(list(pool.map(among, asked)), wanted)
 
 
+NEW = (base.dump_of("merges"), "new", "branches/two", "trunk")
+
+
 class Printed(base.Case):
-    def asked(self, *words: str) -> list[str]:
-        done = base.called(base.dump_of("merges"), "new", "branches/two", "trunk", *words)
-        self.assertEqual((done.status, done.said), (0, ""))
-        return done.output.decode().splitlines()
+    def lines(self, *words: str) -> list[str]:
+        return self.asked(*NEW, *words).decode().splitlines()
 
     def test_lines_and_objects(self) -> None:
-        self.assertEqual(self.asked()[0], "r14\tcarol\tChange inside a directory")
-        self.assertEqual([json.loads(line)["revision"] for line in self.asked("--json")], [14, 12, 6])
-        self.assertEqual([line.split()[0] for line in self.asked("--all")], ["r14", "r12", "r11", "r6"])
+        self.assertEqual(self.lines()[0], "r14\tcarol\tChange inside a directory")
+        self.assertEqual([each["revision"] for each in base.objects(*NEW)], [14, 12, 6])
+        self.assertEqual([line.split()[0] for line in self.lines("--all")], ["r14", "r12", "r11", "r6"])
 
     def test_groups(self) -> None:
         self.assertEqual(
-            self.asked("--by-author"),
+            self.lines("--by-author"),
             ["alice", "r12\talice\tReverse that", "r6\talice\tDelete a file", ""]
             + ["carol", "r14\tcarol\tChange inside a directory"],
         )
-        found = self.asked("--issue", "[a-z]*e a|that|in", "--markdown")
+        found = self.lines("--issue", "[a-z]*e a|that|in", "--markdown")
         self.assertEqual([line for line in found if line.startswith("## ")], ["## elete a", "## inside a", "## that"])
-        self.assertEqual(
-            [json.loads(line)["issues"] for line in self.asked("--issue", "[aeiou]", "--json")],
-            [["a", "e", "i", "o"], ["e", "a"], ["e", "a", "i"]],
-        )
+        issues = [each["issues"] for each in base.objects(*NEW, "--issue", "[aeiou]")]
+        self.assertEqual(issues, [["a", "e", "i", "o"], ["e", "a"], ["e", "a", "i"]])
 
     def test_markdown(self) -> None:
         properties = base.named(2, "PROJ-10 _one_ [x]\n\n* more\n")

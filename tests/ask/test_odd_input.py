@@ -1,7 +1,6 @@
 """Input that nobody expects: each run ends with an answer or with lines that say why there is none."""
 from __future__ import annotations
 
-import json
 import re
 import sys
 from unittest import mock
@@ -41,7 +40,8 @@ class Odd(base.Case):
         )
         done = base.called(faulty, "record", "2")
         self.assertIn(b"\n  Node-path: a\n", done.output)
-        self.assertNotIn("mergeinfo", json.loads(base.called(faulty, "record", "2", "--json").output))
+        (record,) = base.objects(faulty, "record", "2")
+        self.assertNotIn("mergeinfo", record)
 
     def test_branches_may_be_made_from_one_another(self) -> None:
         copies = ([copied(b"b/%d" % (rev - 1), b"b/%d" % (rev - 2), rev - 1)] for rev in range(2, 1200))
@@ -134,7 +134,7 @@ class Odd(base.Case):
     def test_an_uuid_may_be_any_bytes(self) -> None:
         dump = self.made("dump", bytes(Dump([Revision(0)], uuid=b"a\xffb")))
         self.assertIn(b"uuid: a\xffb\n", base.called(dump, "info").output)
-        self.assertEqual(json.loads(base.called(dump, "info", "--json").output)["uuid"], "a\udcffb")
+        self.assertEqual(base.objects(dump, "info")[0]["uuid"], "a\udcffb")
 
     def test_nothing_is_no_dump(self) -> None:
         for dump in (base.NOTHING, self.made("empty", b"")):
@@ -197,8 +197,8 @@ class Odd(base.Case):
         dump = Dump([Revision(0), Revision(1, [added("a\x1b\x9b".encode())], base.named(1, message))])
         done = base.called(self.made("dump", bytes(dump)), "log", "--json", "-r", "1")
         self.assertIsNone(re.search("[\x00-\x09\x0b-\x1f\x7f-\x9f]", done.output.decode()), done)
-        self.assertEqual(json.loads(done.output)["message"], message)
-        self.assertEqual(json.loads(done.output)["changes"][0]["path"], "/a\x1b\x9b")
+        (found,) = done.objects
+        self.assertEqual((found["message"], found["changes"][0]["path"]), (message, "/a\x1b\x9b"))
 
     def test_standard_streams_may_be_closed(self) -> None:
         # fmt: off

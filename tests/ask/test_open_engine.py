@@ -178,18 +178,7 @@ class OpenEngine(base.Case):
         self.assertEqual(len(self.started), 1)
 
     def test_a_line_is_one_query_and_no_piece(self) -> None:
-        lines = (
-            b"",
-            b"piece 0",
-            b"piece 5",
-            b"piece 00",
-            b"piece",
-            b"piece x",
-            b"piece 0 ",
-            b" piece 0",
-            b"\r",
-            b"#1 ok",
-        )
+        lines = b"|piece 0|piece 5|piece 00|piece|piece x|piece 0 | piece 0|\r|#1 ok".split(b"|")
         with self.history(DUMP) as history:
             queries = [*(Line(b"", 0, line) for line in lines), Log(b"trunk", 13)]
             found = [answer.status for answer in history.ask(queries)]
@@ -203,13 +192,13 @@ class OpenEngine(base.Case):
         for later in (b"", SECOND):
             talk = self.talk(FIRST, later)
             if not later:
-                self.assertEqual((talk.ready(), self.revisions(talk, 2)), (2, [2, 1]))
+                self.assertEqual((talk.ready(), self.revisions_by(talk, 2)), (2, [2, 1]))
                 talk.grow(SECOND)
-            self.assertEqual((self.revisions(talk, 4), talk.ready()), ([3, 2, 1], 4))
+            self.assertEqual((self.revisions_by(talk, 4), talk.ready()), ([3, 2, 1], 4))
             talk.grow(memoryview(bytes(Revision(5, [changed(b"trunk")]))))
-            self.assertEqual((talk.ready(), self.revisions(talk, 5)), (5, [5, 3, 2, 1]))
+            self.assertEqual((talk.ready(), self.revisions_by(talk, 5)), (5, [5, 3, 2, 1]))
 
-    def revisions(self, talk: engine.Talk, rev: int) -> list[int]:
+    def revisions_by(self, talk: engine.Talk, rev: int) -> list[int]:
         (answer,) = talk.ask([Log(b"trunk", rev)])
         return answer.revisions
 
@@ -220,12 +209,12 @@ class OpenEngine(base.Case):
         talk.grow(SECOND)
         self.assertEqual(talk.ready(), 4)
         self.assertEqual({tuple(answer.revisions) for answer in answers}, {(2, 1)})
-        self.assertEqual(self.revisions(talk, 4), [3, 2, 1])
+        self.assertEqual(self.revisions_by(talk, 4), [3, 2, 1])
 
     def test_a_piece_may_be_larger_than_a_pipe(self) -> None:
         talk = self.talk()
         talk.grow(b"".join(bytes(Revision(rev, [changed(b"trunk")])) for rev in range(3, 5003)))
-        self.assertEqual((talk.ready(), len(self.revisions(talk, 5002))), (5002, 5002))
+        self.assertEqual((talk.ready(), len(self.revisions_by(talk, 5002))), (5002, 5002))
 
     def test_a_refused_piece_ends_the_talk(self) -> None:
         for piece in (bytes(Revision(7)), SECOND[:-1], bytes(Revision(3, [added(b"trunk")]))):

@@ -35,11 +35,6 @@ class Search(base.Case):
             self.assertEqual(search.folded(text.encode()), wanted.encode(), text)
         self.assertIsNone(search.folded(b"a\xff"))
 
-    def revisions(self, *words: str) -> list[int]:
-        done = base.called(base.dump_of("branches"), "log", *words)
-        self.assertEqual((done.status, done.said), (0, ""), words)
-        return [int(line.split()[0][1:]) for line in done.output.splitlines() if line.startswith(b"r")]
-
     def test_entries_that_match_some_group_are_printed(self) -> None:
         # fmt: off
         rows: tuple[tuple[list[str], list[int]], ...] = (
@@ -51,7 +46,7 @@ class Search(base.Case):
         )
         # fmt: on
         for words, wanted in rows:
-            self.assertEqual(self.revisions(*words), wanted, words)
+            self.assertEqual(self.revisions(base.dump_of("branches"), *words), wanted, words)
 
     def test_nothing_that_matches_is_sieved_out(self) -> None:
         """A pattern is a part of what is printed, perhaps with stars, in other letters."""

@@ -21,19 +21,9 @@ class Shell(base.Case):
 
     def test_answers_are_those_of_the_command(self) -> None:
         lines = (
-            "log -q trunk",
-            "where tags/one-1.0 4",
-            "branches",
-            "log -r 3:5 --json",
-            "info",
-            "graph",
-            "unmerged",
-            "heirs trunk@3",
-            "new trunk@3 trunk",
-            "check-mergeinfo",
-            "log -g --xml",
-            "mergeinfo trunk branches/two",
-        )
+            "log -q trunk;where tags/one-1.0 4;branches;log -r 3:5 --json;info;graph;unmerged;heirs trunk@3;"
+            "new trunk@3 trunk;check-mergeinfo;log -g --xml;mergeinfo trunk branches/two"
+        ).split(";")
         wanted = b"".join(base.called(DUMP, *line.split()).output for line in lines)
         for text in (lines, [*lines, ""], ["", " ", *lines, "exit", "log nope"], [*lines, "  quit ", "bogus"]):
             self.assertEqual(self.shell(*text), (0, wanted, ""))

@@ -1,7 +1,6 @@
 """`check-mergeinfo`."""
 from __future__ import annotations
 
-import json
 
 from dev.dumps import FILE, added, changed, copied, deleted, dump_of, mergeinfo
 from tests.ask import base
@@ -60,8 +59,6 @@ class Soundness(base.Case):
         done = self.found(*values, words=("/oth*",))
         self.assertEqual(done.output, b"/other\t/nowhere:4 there never was such a path\n")
         done = self.found(*values, words=("--json", "trunk"))
-        self.assertEqual(
-            [json.loads(line) for line in done.output.splitlines()],
-            [{"path": "/trunk", "source": "/nowhere", "ranges": "3", "reason": "there never was such a path"}],
-        )
+        wanted = {"path": "/trunk", "source": "/nowhere", "ranges": "3", "reason": "there never was such a path"}
+        self.assertEqual(done.objects, [wanted])
         self.assertEqual(done.status, 1)

@@ -14,7 +14,7 @@ from svnask import History
 from svnask.errors import Unreached
 from svnask.sources.subversion import Subversion
 from svnask.sources.urls import canonical, path_below
-from tests.ask import base, grown, served_beside_svn
+from tests.ask import base, grown
 
 ALICE = ("--username", "alice", "--password", "secret")
 ASKED = base.commands(
@@ -40,15 +40,6 @@ class Case(base.Case):
         (self.folder / place).parent.mkdir(exist_ok=True)
         return grown.Grown(self.folder / place, base.content_of(name), 99)
 
-    def asked(self, *words: base.Word) -> bytes:
-        done = base.called(*words)
-        self.assertEqual((done.status, done.said), (0, ""), words)
-        return done.output
-
-    def check_said(self, done: base.Done, status: int, said: str) -> None:
-        self.assertEqual((done.status, done.output), (status, b""), done)
-        self.assertTrue(done.said.startswith(f"svnask: {said}"), done)
-
 
 class WorkingCopies(Case):
     def test_a_working_copy_stands_for_its_url(self) -> None:
@@ -64,7 +55,7 @@ class WorkingCopies(Case):
         made = self.repository()
         running.run(["svn", "checkout", "-q", made.url, self.folder / "copy"], base.NOTHING)
         (self.folder / "copy" / "new").mkdir()
-        self.check_said(base.called(self.folder / "copy" / "new", "log"), 1, "W155010: ")
+        self.check_unanswered(1, "svnask: W155010: ", self.folder / "copy" / "new", "log")
 
 
 class Words(Case):
@@ -99,8 +90,8 @@ class Words(Case):
         made = self.repository()
         for _ in range(2):
             self.assertIn(b"r5 | ", self.asked("log", f"{made.url}/branches/one@7"))
-            self.check_said(base.called("log", f"{made.url}/branches/one"), 1, "E160013: ")
-            self.check_said(base.called("log", f"{made.url}/none/at/all@7"), 1, "E160013: ")
+            self.check_unanswered(1, "svnask: E160013: ", "log", f"{made.url}/branches/one")
+            self.check_unanswered(1, "svnask: E160013: ", "log", f"{made.url}/none/at/all@7")
         self.assertEqual(self.asked("sources").count(b"\n"), 1)
 
     def test_names_of_any_kind(self) -> None:
@@ -132,11 +123,10 @@ class Words(Case):
 
     def test_targets_of_another_repository(self) -> None:
         one, other = self.repository(), self.repository("merges", "other")
-        self.check_said(
-            base.called("mergeinfo", "--show-revs", "merged", f"{one.url}/trunk", f"{other.url}/trunk"), 1, "E170000: "
-        )
-        self.check_said(base.called("log", one.url, other.url), 1, "E205000: ")
-        self.check_said(base.called(one.folder, "log", f"{other.url}/trunk"), 1, "E170000: ")
+        merged = ("mergeinfo", "--show-revs", "merged")
+        self.check_unanswered(1, "svnask: E170000: ", *merged, f"{one.url}/trunk", f"{other.url}/trunk")
+        self.check_unanswered(1, "svnask: E205000: ", "log", one.url, other.url)
+        self.check_unanswered(1, "svnask: E170000: ", one.folder, "log", f"{other.url}/trunk")
 
     def test_a_history_of_the_module(self) -> None:
         made = self.repository()
@@ -151,9 +141,9 @@ class Failing(Case):
     def test_a_wrong_url(self) -> None:
         none = f"file://{self.folder}/none"
         for words in ([none, "log"], ["log", f"{none}/trunk@3"], [f"{none}/x", "update"]):
-            self.check_said(base.called(*words), 1, "E170013: Unable to connect to a repository at URL")
-        self.check_said(base.called("http://127.0.0.1:1/x", "info"), 1, "E170013: ")
-        self.check_said(base.called("ftp://127.0.0.1/x", "info"), 1, "W170000: Unrecognized URL scheme")
+            self.check_unanswered(1, "svnask: E170013: Unable to connect to a repository at URL", *words)
+        self.check_unanswered(1, "svnask: E170013: ", "http://127.0.0.1:1/x", "info")
+        self.check_unanswered(1, "svnask: W170000: Unrecognized URL scheme", "ftp://127.0.0.1/x", "info")
         self.assertFalse((self.cache / "svnhist").exists())
 
     def test_a_folder_that_is_a_repository_no_more(self) -> None:
@@ -162,8 +152,7 @@ class Failing(Case):
             self.asked(source, "info")
         (made.folder / "db" / "format").unlink()
         for source in made.sources:
-            done = base.called(source, "info")
-            self.check_said(done, 1, "E160004: ")
+            done = self.check_unanswered(1, "svnask: E160004: ", source, "info")
             self.assertEqual(done.said.splitlines()[-1], "--offline answers from what is kept of it")
             self.asked(source, "info", "--offline")
 
@@ -173,7 +162,7 @@ class Failing(Case):
         empty.mkdir()
         with mock.patch.dict(os.environ, PATH=str(empty)):
             for source in made.sources:
-                self.check_said(base.called(source, "info"), 3, "cannot run svn: ")
+                self.check_unanswered(3, "svnask: cannot run svn: ", source, "info")
         self.script("empty/svn", f'PATH={os.environ["PATH"]} exec svn "$@"')
         expected = self.asked(self.made("dump", made.dump()), "log", "-v")
         with mock.patch.dict(os.environ, PATH=str(empty)):
@@ -194,7 +183,7 @@ class Failing(Case):
         for line, status, said in rows:
             self.script("programs/svn", line)
             with mock.patch.dict(os.environ, PATH=f"{programs}:{os.environ['PATH']}"):
-                self.check_said(base.called(made.folder, "info"), status, said)
+                self.check_unanswered(status, f"svnask: {said}", made.folder, "info")
 
     def test_no_command_is_left_over(self) -> None:
         made = self.repository("merges")
@@ -223,8 +212,7 @@ class Served(Case):
                 ["--username=bob", "--password="],
             ]
             for words in wrong:
-                done = base.called(url, "info", *settings, *words)
-                self.check_said(done, 1, "E")
+                done = self.check_unanswered(1, "svnask: E", url, "info", *settings, *words)
                 self.assertRegex(done.said, "E(170001|215004|170013): ")
             dump = self.made("dump", made.dump())
             for words in ASKED:
@@ -236,12 +224,13 @@ class Served(Case):
             made.commit("later")
             self.assertIn(b"Make later", self.asked(url, "log", "-r14", *settings, *ALICE))
             self.asked(url, "update", "--properties", *settings, *ALICE)
-            done = base.called(url, "info", *settings, "--username", "alice", "--password", "wrong")
-            self.check_said(done, 1, "E")
+            done = self.check_unanswered(
+                1, "svnask: E", url, "info", *settings, "--username", "alice", "--password", "wrong"
+            )
             self.assertIn("--offline", done.said)
             self.assertIn(b"youngest: 14\n", self.asked(url, "info", "--offline", *settings, *ALICE))
             # Nothing is kept for others.
-            self.check_said(base.called(url, "info", "--offline", *settings), 1, "nothing is kept")
+            self.check_unanswered(1, "svnask: nothing is kept", url, "info", "--offline", *settings)
 
     def test_svnserve(self) -> None:
         made = self.repository()
@@ -255,8 +244,7 @@ class Served(Case):
             # Over http svn looks at the path before it looks at the range.
             words = ("log", "--non-interactive", "--no-auth-cache", *ALICE, "-r", "99:HEAD")
             for path, code in (("none@2", "E160013"), ("trunk@2", "E160006")):
-                done = base.called(*words, f"{url}/repository/{path}")
-                self.check_said(done, 1, code)
+                self.check_unanswered(1, f"svnask: {code}", *words, f"{url}/repository/{path}")
                 theirs = running.run(["svn", *words, f"{url}/repository/{path}"], environment=grown.ENVIRONMENT)
                 self.assertIn(code.encode(), theirs.errors)
 
@@ -265,14 +253,10 @@ class Served(Case):
         with grown.svnserve(made.folder.parent, "read") as url:
             url += "/repository"
             self.asked(url, "info")
-        done = base.called(url, "info")
-        self.check_said(done, 1, "E170013: ")
+        done = self.check_unanswered(1, "svnask: E170013: ", url, "info")
         self.assertIn("--offline", done.said)
         with self.assertRaises(Unreached):
             Subversion().look(canonical(url))
-
-    def test_svnask_prints_what_svn_prints(self) -> None:
-        self.assertEqual(list(served_beside_svn.differences(self.folder, 1, 60)), [])
 
     def test_a_refusal_of_what_a_host_hides(self) -> None:
         made = self.repository()
@@ -281,6 +265,7 @@ class Served(Case):
         with grown.instead_of(self.folder, "log", f"cat {faulty}; exit"):
             for source in made.sources:
                 for _ in range(2):
-                    done = base.called(source, "log")
-                    self.check_said(done, 1, "dump refused: 16 NoParent at record 4\nrecord 4: r1 add /trunk/lib\n")
+                    done = self.check_unanswered(
+                        1, "svnask: dump refused: 16 NoParent at record 4\nrecord 4: r1 add /trunk/lib\n", source, "log"
+                    )
                     self.assertEqual("hides" in done.said, source == made.url)

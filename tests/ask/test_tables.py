@@ -3,7 +3,6 @@ from __future__ import annotations
 
 import csv
 import io
-import json
 
 from dev.dumps import FILE, Dump, Revision, added, changed, copied, dump_of
 from svnask.asking.verbs import verb_named
@@ -29,9 +28,7 @@ class Tables(base.Case):
 
     def test_the_cells_of_a_table_are_the_fields_of_objects(self) -> None:
         table = rows_of(base.called("--csv", DUMP, "branches", "--ahead-behind", "--log"))
-        objects = [
-            *map(json.loads, base.called("--json", DUMP, "branches", "--ahead-behind", "--log").output.splitlines())
-        ]
+        objects = base.objects(DUMP, "branches", "--ahead-behind", "--log")
         self.assertEqual([row["path"] for row in table], [each["path"] for each in objects])
         self.assertEqual([row["ahead"] for row in table], ["1", "1", "1", ""])
         self.assertEqual(
@@ -53,9 +50,7 @@ class Tables(base.Case):
 
     def test_what_prints_no_table_says_so(self) -> None:
         for words in (["info"], ["graph"], ["record", "1"], ["update"], ["ask", "queries"]):
-            done = base.called("--csv", DUMP, *words)
-            self.assertEqual((done.status, done.output), (2, b""))
-            self.assertIn("prints no table", done.said)
+            self.check_unanswered(2, "prints no table", "--csv", DUMP, *words)
         self.assertEqual(base.called("--csv", "--json", DUMP, "branches").status, 2)
 
 

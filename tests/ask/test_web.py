@@ -159,52 +159,34 @@ class Web(base.Case):
     def test_the_table_of_branches(self) -> None:
         for name in base.names():
             dump = base.dump_of(name)
-            objects = [
-                json.loads(line)
-                for line in base.called("--json", dump, "branches", "--ahead-behind").output.splitlines()
-            ]
             found = [row for row in self.rows(self.opened(dump), "/") if len(row) == 10 and row[0] != "Name"]
-            wanted = [
-                [
-                    each["path"],
-                    f"r{each['last_change']}",
-                    *("" if n is None else str(n) for n in (each["ahead"], each["behind"])),
-                ]
-                for each in objects
-            ]
+            wanted = []
+            for each in base.objects(dump, "branches", "--ahead-behind"):
+                counts = ["" if count is None else str(count) for count in (each["ahead"], each["behind"])]
+                wanted.append([each["path"], f"r{each['last_change']}", *counts])
             self.assertEqual(sorted([row[0], row[3], *row[7:9]] for row in found), sorted(wanted), name)
 
     def test_each_revision(self) -> None:
         for name in base.names():
             dump = base.dump_of(name)
             opened = self.opened(dump)
-            merges = [json.loads(line) for line in base.called("--json", dump, "graph").output.splitlines()]
+            merges = [each for each in base.objects(dump, "graph") if each["type"] == "merge"]
             for rev in range(1, self.history(dump).head + 1):
                 rows = self.rows(opened, f"/revision/{rev}")
-                (shown,) = [
-                    json.loads(line) for line in base.called("--json", dump, "show", str(rev)).output.splitlines()
-                ]
+                (shown,) = base.objects(dump, "show", str(rev))
                 for change in shown["changes"]:
                     self.assertIn(change["path"], [row[1] for row in rows if len(row) == 5], (name, rev))
-                held = [
-                    json.loads(line) for line in base.called("--json", dump, "contains", str(rev)).output.splitlines()
-                ]
-                self.assertEqual(
-                    [row for row in rows if len(row) == 2][1:], [[each["path"], each["how"]] for each in held]
-                )
-                merged = [each for each in merges if each["type"] == "merge" and rev in each["merged"]]
-                there = [
-                    row for row in rows if len(row) == 5 and row[0].startswith("r") and f"r{rev}" in row[3].split()
-                ]
-                self.assertEqual(sorted(row[0] for row in there), sorted(f"r{each['revision']}" for each in merged))
+                held = [[each["path"], each["how"]] for each in base.objects(dump, "contains", str(rev))]
+                self.assertEqual([row for row in rows if len(row) == 2][1:], held)
+                merged = [f"r{each['revision']}" for each in merges if rev in each["merged"]]
+                arrows = [row for row in rows if len(row) == 5 and row[0].startswith("r")]
+                self.assertEqual(sorted(row[0] for row in arrows if f"r{rev}" in row[3].split()), sorted(merged))
 
     def test_the_page_of_a_path(self) -> None:
         dump = base.dump_of("merges")
         opened = self.opened(dump)
         rows = self.rows(opened, "/path/branches/two?merged=1")
-        log = [
-            json.loads(line) for line in base.called("--json", dump, "log", "-g", "branches/two").output.splitlines()
-        ]
+        log = base.objects(dump, "log", "-g", "branches/two")
         listed = [row[0] for row in rows if len(row) == 4 and row[0].startswith("r")]
         self.assertEqual(listed, [f"r{each['revision']}" for each in log])
         self.assertIn(["/trunk", "r4 to r6"], rows)
@@ -268,30 +250,19 @@ class Web(base.Case):
         self.assertEqual(self.got(opened, "/").status, 200)
 
     def test_a_comparison(self) -> None:
-        dump = base.dump_of("merges")
+        dump, pair = base.dump_of("merges"), ("/branches/one", "/branches/two")
         opened = self.opened(dump)
-        page = Reader(self.got(opened, "/compare?from=/branches/one&to=/branches/two").text)
-        new = [
-            json.loads(line)["revision"]
-            for line in base.called("--json", dump, "new", "/branches/one", "/branches/two").output.splitlines()
-        ]
+        text = self.got(opened, "/compare?from=/branches/one&to=/branches/two").text
+        page = Reader(text)
+        new = [f"r{each['revision']}" for each in base.objects(dump, "new", *pair)]
         listed = [row[0] for row in page.rows if len(row) == 4]
-        self.assertEqual(listed[1 : 1 + len(new)], [f"r{rev}" for rev in new])
+        self.assertEqual(listed[1 : 1 + len(new)], new)
         markdown = next(link for link in page.links if "markdown" in link)
-        self.assertEqual(
-            self.got(opened, markdown).content,
-            base.called(dump, "new", "/branches/one", "/branches/two", "--markdown").output,
-        )
-        for words in (
-            ["--show-revs=eligible", "/branches/two", "/branches/one"],
-            ["--show-revs=eligible", "/branches/one", "/branches/two"],
-        ):
-            for line in base.called(dump, "mergeinfo", *words).output.decode().split():
+        self.assertEqual(self.got(opened, markdown).content, base.called(dump, "new", *pair, "--markdown").output)
+        for paths in (pair, pair[::-1]):
+            for line in base.called(dump, "mergeinfo", "--show-revs=eligible", *paths).output.decode().split():
                 self.assertIn(line.rstrip("*"), listed)
-        self.assertIn(
-            base.called(dump, "mergeinfo", "/branches/one", "/branches/two").output.decode(),
-            self.got(opened, "/compare?from=/branches/one&to=/branches/two").text,
-        )
+        self.assertIn(base.called(dump, "mergeinfo", *pair).output.decode(), text)
         self.assertEqual(self.got(opened, "/compare").status, 200)
         self.assertEqual(self.got(opened, "/compare?from=none&to=trunk").status, 404)
 
@@ -299,7 +270,7 @@ class Web(base.Case):
         dump = base.dump_of("branches")
         opened = self.opened(dump)
         for query, words in (("q=copy", ["--search=copy"]), ("q=/tags/begun&paths=1", ["-v", "--search=/tags/begun"])):
-            log = [json.loads(line) for line in base.called("--json", dump, "log", *words).output.splitlines()]
+            log = base.objects(dump, "log", *words)
             rows = self.rows(opened, f"/search?{query}")
             self.assertEqual([row[0] for row in rows[1:]], [f"r{each['revision']}" for each in log])
             self.assertTrue(log)
@@ -311,11 +282,9 @@ class Web(base.Case):
         for name in base.names():
             dump = base.dump_of(name)
             rows = self.rows(self.opened(dump), "/checks")
-            tags = [json.loads(line) for line in base.called("--json", dump, "changed-tags").output.splitlines()]
-            self.assertEqual(
-                len([row for row in rows if len(row) == 7]), sum(len(tag["events"]) for tag in tags) + bool(tags)
-            )
-            unsound = base.called("--json", dump, "check-mergeinfo").output.splitlines()
+            events = sum(len(tag["events"]) for tag in base.objects(dump, "changed-tags"))
+            self.assertEqual(len([row for row in rows if len(row) == 7]), events + bool(events))
+            unsound = base.objects(dump, "check-mergeinfo")
             self.assertEqual(len([row for row in rows if len(row) == 4]), len(unsound) + bool(unsound))
 
     def test_all_links_lead_somewhere(self) -> None:
@@ -349,8 +318,7 @@ class Web(base.Case):
         self.assertIn("https://host/view/trunk?r=13&x=1", Reader(self.got(linked, "/").text).links)
         self.assertIn("https://host/view/?r=9&x=1", Reader(self.got(linked, "/revision/9").text).links)
         for form in ("javascript:{path}", "//host/{path}", "https://host/", ""):
-            done = base.called(dump, "graph", "--link", form)
-            self.assertEqual((done.status, done.output), (2, b""), form)
+            self.check_unanswered(2, "", dump, "graph", "--link", form)
         picture = base.called(dump, "graph", "--link", "https://host/view{path}?r={revision}&x=1").output
         self.assertIn(b'<a href="https://host/view/trunk?r=13&amp;x=1">', picture)
 
@@ -376,38 +344,13 @@ class Web(base.Case):
     def test_no_file_of_the_host_is_read_or_written(self) -> None:
         dump = base.dump_of("branches")
         opened, text = self.opened(dump), self.made("text", b"trunk\n")
-        for verb in (
-            "export",
-            "check-git",
-            "ask",
-            "serve",
-            "update",
-            "forget",
-            "sources",
-            "stop",
-            "shell",
-            "web",
-            "none",
-            "",
-        ):
+        for verb in ("", *"export check-git ask serve update forget sources stop shell web none".split()):
             self.assertEqual(self.got(opened, f"/api/{verb}").status, 400, verb)
-        for query in (
-            f"log?targets={text}",
-            f"graph?output={self.folder / 'made'}",
-            "log?help=1",
-            "log?json=1",
-            "log?diff=1",
-        ):
+        files = (f"log?targets={text}", f"graph?output={self.folder / 'made'}")
+        for query in (*files, "log?help=1", "log?json=1", "log?diff=1"):
             self.assertEqual(self.got(opened, f"/text/{query}").status, 400, query)
         self.assertFalse((self.folder / "made").exists())
-        for path in (
-            "/static/../wsgi.py",
-            "/static/..%2fwsgi.py",
-            "/static/",
-            "/static",
-            "//etc/passwd",
-            "/static/svnask.js/x",
-        ):
+        for path in "/static/../wsgi.py /static/..%2fwsgi.py /static/ /static //etc/passwd /static/svnask.js/x".split():
             self.assertEqual(self.got(opened, path).status, 404, path)
 
     def check_page(self, got: Got, about: object) -> None:
@@ -436,15 +379,8 @@ class Web(base.Case):
         dump = self.made("dump", bytes(Dump([Revision(0), *revisions])))
         opened = self.opened(dump)
         below = quote(b"/branches/" + name)
-        for address in (
-            "/",
-            "/revision/1",
-            f"/path{below}",
-            f"/path{below}?rev=1",
-            "/checks",
-            "/search?q=alert",
-            f"/compare?from={below}&to=/tags/{quote(name)}",
-        ):
+        of_paths = (f"/path{below}", f"/path{below}?rev=1", f"/compare?from={below}&to=/tags/{quote(name)}")
+        for address in ("/", "/revision/1", *of_paths, "/checks", "/search?q=alert"):
             got = self.got(opened, address)
             self.assertEqual(got.status, 200, address)
             self.check_page(got, address)
@@ -474,11 +410,11 @@ class Web(base.Case):
         opened = self.opened(dump)
         now = time.monotonic()
         with mock.patch.object(time, "monotonic", side_effect=lambda: now):
-            self.assertEqual(json.loads(self.got(opened, "/api/info").content)["youngest"], 8)
+            self.assertIn('"youngest": 8,', self.got(opened, "/api/info").text)
             dump.write_bytes(content)
-            self.assertEqual(json.loads(self.got(opened, "/api/info").content)["youngest"], 8)
+            self.assertIn('"youngest": 8,', self.got(opened, "/api/info").text)
             now += renewed.PAUSE
-            self.assertEqual(json.loads(self.got(opened, "/api/info").content)["youngest"], 13)
+            self.assertIn('"youngest": 13,', self.got(opened, "/api/info").text)
             dump.unlink()
             now += renewed.PAUSE
             self.assertEqual(self.got(opened, "/").status, 502)

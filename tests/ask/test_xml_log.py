@@ -41,9 +41,7 @@ DUMP = bytes(
 
 class XmlLog(base.Case):
     def output(self, *words: str) -> bytes:
-        done = base.called(self.made("dump", DUMP), "log", "--xml", *words)
-        self.assertEqual((done.status, done.said), (0, ""), words)
-        return done.output
+        return self.asked(self.made("dump", DUMP), "log", "--xml", *words)
 
     def test_texts_and_attributes_are_escaped(self) -> None:
         rows = (
