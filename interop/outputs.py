@@ -58,8 +58,8 @@ def run(url: str, arguments: list[str]) -> Output:
 def as_url(url: str, word: str) -> str:
     if not word.startswith("/"):
         return word
-    path, _, peg = word.rpartition("@")
-    return f"{url}{urllib.parse.quote(path)}@{peg}"
+    path, at, peg = word.rpartition("@")
+    return url + urllib.parse.quote(path) + at + peg if at else url + urllib.parse.quote(word)
 
 
 def log_of(lot: random.Random, trees: Sequence[Sequence[str]]) -> list[str]:

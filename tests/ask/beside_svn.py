@@ -1,11 +1,13 @@
 """Runs `svn` and svnask on the same question, and compares what they print.
 
-usage: tests/ask/beside-svn [--only KIND] [--by file|svn|http] FIRST LAST
+usage: tests/ask/beside-svn [--only KIND] [--by file|svn|http|growing] FIRST LAST
 
 For each seed from FIRST to LAST it draws a repository, recorded or drawn, and a command of some kind, and prints what is
 not the same. A seed always draws the same. Of XML the attributes and the properties are sorted before, since their
 order changes with each run of `svn`. By `file` svnask reads a dump, and `svn` its folder; otherwise both ask the same
-server. The last lines count the outcomes. The status is 1 if anything was not the same. `$SVNHIST` names the program.
+server, `growing` for a repository that gets new revisions meanwhile. Half of the commands that svnask takes as `svn`
+does name the server in their arguments. The last lines count the outcomes. The status is 1 if anything was not the
+same. `$SVNHIST` names the program.
 """
 from __future__ import annotations
 
@@ -49,6 +51,11 @@ OTHER = "another output"
 FEATURES = "features"
 # How many seeds have the same repository.
 TOGETHER = 20
+BY = ("file", "svn", "http", "growing")
+# The recorded repositories whose dumps can be cut where a line names a revision.
+CUT = ("again", "branches", "copies", "drawn", "inherited", "merges", "renames", "replaced")
+# How often `svn` is asked what is eligible, since it may answer in several ways.
+TURNS = 30
 
 
 class Place(NamedTuple):
@@ -57,6 +64,22 @@ class Place(NamedTuple):
     source: base.Word
     url: str
     trees: list[list[str]]
+    # What has the first revisions of it alone, and gets more.
+    growing: grown.Grown | None = None
+
+    @property
+    def head(self) -> int:
+        return len(self.trees) - 1
+
+    def at(self, seed: int) -> Place:
+        """Return it as it is for a seed: half of it, and of the rest the more, the more seeds came before."""
+        if self.growing is None:
+            return self
+        half = len(self.trees) // 2 + 1
+        count = half + (len(self.trees) - half) * (seed % TOGETHER) // TOGETHER
+        if count > self.growing.count:
+            self.growing.grow(count - self.growing.count)
+        return Place(self.source, self.url, self.trees[:count], self.growing)
 
 
 class Output(NamedTuple):
@@ -67,19 +90,20 @@ class Output(NamedTuple):
 
 
 class Server(NamedTuple):
-    """A server of the repositories of a folder: its URL, and the options by which they are reached."""
+    """A server of the repositories of a folder: its URL, the options by which they are reached, and whether they grow."""
 
     url: str
     options: tuple[str, ...] = ()
+    is_growing: bool = False
 
 
 @contextlib.contextmanager
 def served(by: str, folder: Path) -> Iterator[Server | None]:
     """The server of the repositories that are loaded, if they are not asked by files."""
     (folder / "loaded").mkdir()
-    if by == "svn":
+    if by in ("svn", "growing"):
         with grown.svnserve(folder / "loaded", "read") as url:
-            yield Server(url)
+            yield Server(url, is_growing=by == "growing")
     elif by == "http":
         with grown.apache(folder / "loaded", folder / "apache") as url:
             yield Server(url, ("--username", "alice", "--password", "secret", "--no-auth-cache", "--non-interactive"))
@@ -87,12 +111,12 @@ def served(by: str, folder: Path) -> Iterator[Server | None]:
         yield None
 
 
-def dump_of(number: int) -> bytes:
-    """The dump of a number."""
+def dump_of(number: int, names: Sequence[str]) -> bytes:
+    """The dump of a number, a recorded one or one that is drawn."""
     chance = random.Random(number)
     sort = chance.random()
     if sort < 0.3:
-        return base.content_of(chance.choice(NAMES))
+        return base.content_of(chance.choice(names))
     return synchronized(chance) if sort < 0.55 else drawn(chance)
 
 
@@ -100,14 +124,20 @@ def loaded(name: str, number: int, folder: Path, server: Server | None = None) -
     """The repository of a number, of features alone where it has that name."""
     shutil.rmtree(folder / name, ignore_errors=True)
     tools = Tools(folder)
-    tools.load(folder / name, synchronized(random.Random(number)) if name == FEATURES else dump_of(number))
+    is_growing = server is not None and server.is_growing
+    dump = synchronized(random.Random(number)) if name == FEATURES else dump_of(number, CUT if is_growing else NAMES)
+    tools.load(folder / name, dump)
     repository = Repository(tools, folder / name)
     if name == FEATURES:
         trees = [["/trunk"]] * (1 + tools.youngest(folder / name))
     else:
         trees = [[f"/{path}" for path in tree] for tree in repository.trees]
     if server is not None:
-        return Place(f"{server.url}/{name}", f"{server.url}/{name}", trees)
+        url = f"{server.url}/{name}"
+        if not is_growing:
+            return Place(url, url, trees)
+        shutil.rmtree(folder / name)
+        return Place(url, url, trees, grown.Grown(folder / name, dump, 1))
     made = folder / f"{name}.dump"
     made.write_bytes(tools.run("svnadmin", "dump", "-q", folder / name))
     return Place(made, url_of(folder / name), trees)
@@ -118,21 +148,34 @@ def some(chance: random.Random, **shares: float) -> list[str]:
 
 
 def target(chance: random.Random, place: Place) -> str:
-    rev = chance.choice((len(place.trees) - 1, chance.randint(0, len(place.trees) - 1)))
-    return f"{chance.choice(place.trees[rev])}@{rev}"
+    path, rev = path_in(chance, place)
+    if rev == place.head and chance.random() < 0.2:
+        return path + chance.choice(("@HEAD", "@", "@" * ("@" in path)))
+    return f"{path}@{rev}"
+
+
+def path_in(chance: random.Random, place: Place) -> tuple[str, int]:
+    """Return a path, and a revision that has it."""
+    rev = chance.choice((place.head, chance.randint(0, place.head)))
+    return chance.choice(place.trees[rev]), rev
+
+
+def bounds(chance: random.Random, place: Place) -> str:
+    """Return a range of revisions. The last one may have a name."""
+    first, last = ("HEAD" if chance.random() < 0.05 else str(chance.randint(0, place.head)) for _ in range(2))
+    return f"{first}:{last}"
 
 
 def ranges(chance: random.Random, place: Place) -> list[str]:
-    head = len(place.trees) - 1
     found = []
     if chance.random() < 0.3:
         found += ["-l", str(chance.randint(1, 4))]
     if chance.random() < 0.4:
-        found += ["-r", "%d:%d" % (chance.randint(0, head), chance.randint(0, head))]
+        found += ["-r", bounds(chance, place)]
         if chance.random() < 0.3:
-            found += ["-r", "%d:%d" % (chance.randint(0, head), chance.randint(0, head))]
+            found += ["-r", bounds(chance, place)]
     elif chance.random() < 0.1:
-        found += ["-c", "%d,-%d,%d-%d" % tuple(chance.randint(1, max(head, 1)) for _ in range(4))]
+        found += ["-c", "%d,-%d,%d-%d" % tuple(chance.randint(1, max(place.head, 1)) for _ in range(4))]
     return found
 
 
@@ -159,14 +202,13 @@ def diagram(chance: random.Random, place: Place) -> list[str]:
 
 
 def merges(chance: random.Random, place: Place) -> list[str]:
-    """Return what was merged, as a log. That of the root with all below it is refused."""
+    """Return what was merged, mostly as a log. That of the root with all below it is refused."""
     verb, source, merged = chance.choice(("merged", "eligible")), target(chance, place), target(chance, place)
-    options = some(
-        chance, recursive=0 if merged.startswith("/@") else 0.3, log=1, verbose=0.5, quiet=0.2, incremental=0.1
-    )
-    head = len(place.trees) - 1
+    options = some(chance, recursive=0 if merged.partition("@")[0] == "/" else 0.3)
+    if chance.random() < 0.7:
+        options += ["--log", *some(chance, verbose=0.5, quiet=0.2, incremental=0.1)]
     if chance.random() < 0.2:
-        options += ["-r", "%d:%d" % (chance.randint(0, head), chance.randint(0, head))]
+        options += ["-r", bounds(chance, place)]
     return ["mergeinfo", f"--show-revs={verb}", *options, source, merged]
 
 
@@ -180,19 +222,19 @@ def merge_history(chance: random.Random, place: Place) -> list[str]:
     options = some(chance, verbose=0.5, quiet=0.3, xml=0.3, stop_on_copy=0.15)
     patterns = [f"--search={pattern(chance)}"] if chance.random() < 0.1 else []
     if chance.random() < 0.3:
-        rev = chance.randint(1, max(len(place.trees) - 1, 1))
+        rev = chance.randint(1, max(place.head, 1))
         return ["log", "-g", f"/trunk@{rev}", *options, "-c", str(rev)]
     return ["log", "-g", target(chance, place), *options, *patterns, *ranges(chance, place)]
 
 
 def several(chance: random.Random, place: Place) -> list[str]:
     """Paths below a target."""
-    found = target(chance, place)
-    path, _, rev = found.rpartition("@")
-    below = [each[len(path) :].lstrip("/") for each in place.trees[int(rev)] if each.startswith(path.rstrip("/") + "/")]
+    path, rev = path_in(chance, place)
+    below = [each[len(path) :].lstrip("/") for each in place.trees[rev] if each.startswith(path.rstrip("/") + "/")]
     paths = chance.choices([*below, ".", "none"] if chance.random() < 0.1 else below or ["."], k=chance.randint(1, 3))
     options = some(chance, verbose=0.3, use_merge_history=0.3, stop_on_copy=0.2, incremental=0.1)
-    return ["log", "-q", *options, *ranges(chance, place), found, *(word for word in paths if "@" not in word)]
+    names = [word for word in paths if "@" not in word]
+    return ["log", "-q", *options, *ranges(chance, place), f"{path}@{rev}", *names]
 
 
 def values(chance: random.Random, place: Place) -> list[str]:
@@ -264,18 +306,28 @@ class Compared(NamedTuple):
         )
 
 
-def compare(kind: str, seed: int, place: Place, folder: Path, options: Sequence[str] = ()) -> Compared:
-    chance = random.Random(f"{kind} {seed}")
-    words = KINDS[kind](chance, place)
-    done = Tools(folder).try_run("svn", *options, *(as_url(place.url, word) for word in words), seconds=PATIENCE)
-    found = base.called(place.source, *options, *words)
-    said = done.errors.decode("utf-8", "replace")
+def of_svn(words: Sequence[str], place: Place, folder: Path) -> Output:
+    """Return what `svn` prints."""
+    done = Tools(folder).try_run("svn", *words, seconds=PATIENCE)
     printed = done.output
-    if kind == "values":
+    if "propget" in words:
         # In place of a URL svnask prints the path.
         url = re.compile(re.escape(place.url.encode()) + rb"([^\n' ]*)")
         printed = url.sub(lambda found: urllib.parse.unquote_to_bytes(found[1]) or b"/", printed)
-    wanted, own = output_of(done.status, printed, said), output_of(found.status, found.output, found.said)
+    return output_of(done.status, printed, done.errors.decode("utf-8", "replace"))
+
+
+def compare(kind: str, seed: int, place: Place, folder: Path, options: Sequence[str] = ()) -> Compared:
+    chance = random.Random(f"{kind} {seed}")
+    words = KINDS[kind](chance, place)
+    as_svn = [*options, *(as_url(place.url, word) for word in words)]
+    is_as_svn = place.source == place.url and words[0] != "propget" and chance.random() < 0.5
+    found = base.called(*as_svn) if is_as_svn else base.called(place.source, *options, *words)
+    own = output_of(found.status, found.output, found.said)
+    for _ in range(TURNS if "--show-revs=eligible" in words else 1):
+        wanted = of_svn(as_svn, place, folder)
+        if wanted == own:
+            break
     if not place.url.startswith("http") or wanted == own:
         return Compared(words, wanted, own, False)
     return Compared(words, as_served(wanted), as_served(own), True)
@@ -296,7 +348,8 @@ def compared(kinds: list[str], first: int, last: int, folder: Path, by: str = "f
             name, number = (kind, seed) if kind == FEATURES else ("repository", seed // TOGETHER)
             if numbers.get(name) != number:
                 numbers[name], places[name] = number, loaded(name, number, folder / "loaded", server)
-            yield seed, compare(kind, seed, places[name], folder, server.options if server is not None else ())
+            place = places[name].at(seed)
+            yield seed, compare(kind, seed, place, folder, server.options if server is not None else ())
 
 
 def main() -> int:
@@ -305,7 +358,7 @@ def main() -> int:
         description="Runs svn and svnask on one question for each seed. Exits with 1 where they do not print the same.",
     )
     words.add_argument("--only", choices=sorted(KINDS), help="the only kind of command")
-    words.add_argument("--by", choices=("file", "svn", "http"), default="file", help="how repositories are reached")
+    words.add_argument("--by", choices=BY, default="file", help="how repositories are reached")
     words.add_argument("first", type=int, help="the first seed")
     words.add_argument("last", type=int, help="the last seed")
     given = words.parse_args()
