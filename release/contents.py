@@ -12,7 +12,7 @@ from release import reference
 
 SVNASK = ROOT / "ask" / "svnask"
 # The pages for those who change svnhist. All other ones are for its users.
-FOR_DEVELOPERS = ["DECISIONS.md", "code-map.md", "developing.md", "glossary.md", "releasing.md"]
+FOR_DEVELOPERS = ["DECISIONS.md", "code-map.md", "developing.md", "releasing.md"]
 MANUALS = ["svnhist.1", "svnhist-live.1", "svnask.1"]
 # The scripts of completion, where each of them stands in the package below /usr/share, and where pip puts it there.
 COMPLETIONS = {
