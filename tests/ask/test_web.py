@@ -145,7 +145,7 @@ class Web(base.Case):
             dump = base.dump_of(name)
             opened = self.opened(dump)
             for words in ALL:
-                if words[0] not in asked.VERBS or {"--json", "-o"} & set(words):
+                if words[0] not in asked.VERBS or {"--json", "-o", "--issue"} & set(words):
                     continue
                 for form, option in (("api", "--json"), ("csv", "--csv"), ("text", "")):
                     done = base.called(*filter(None, [option]), dump, *words)
@@ -347,7 +347,7 @@ class Web(base.Case):
         for verb in ("", *"export check-git ask serve update forget sources stop shell web none".split()):
             self.assertEqual(self.got(opened, f"/api/{verb}").status, 400, verb)
         files = (f"log?targets={text}", f"graph?output={self.folder / 'made'}")
-        for query in (*files, "log?help=1", "log?json=1", "log?diff=1"):
+        for query in (*files, "log?help=1", "log?json=1", "log?diff=1", "new?from=trunk&to=tags/begun@11&issue=x"):
             self.assertEqual(self.got(opened, f"/text/{query}").status, 400, query)
         self.assertFalse((self.folder / "made").exists())
         for path in "/static/../wsgi.py /static/..%2fwsgi.py /static/ /static //etc/passwd /static/svnask.js/x".split():

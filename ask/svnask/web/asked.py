@@ -23,6 +23,8 @@ VERBS = tuple(
 )
 # What reads or writes a file of the host, and what an address says by itself.
 OF_FILES = ("output", "targets", "help", "link")
+# A regular expression may take endlessly long, and no other thread runs meanwhile.
+ENDLESS = ("issue",)
 # What is said of the source, and so of each question.
 COMMON = ("dump", "access", "below", "offline", "no_cache")
 # How many seconds a page waits for what takes long to find.
@@ -46,7 +48,7 @@ def words_of(verb: str, query: Mapping[str, Sequence[str]]) -> list[str]:
     arguments: list[str] = []
     for action in parser_of_verb(verb).actions:
         name = name_of(action)
-        if action.help == SUPPRESS or name in OF_FILES or name not in left:
+        if action.help == SUPPRESS or name in OF_FILES + ENDLESS or name not in left:
             continue
         values = left.pop(name)
         if not action.option_strings:
