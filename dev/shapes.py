@@ -108,6 +108,21 @@ def long_message(count: int) -> bytes:
     return bytes(Dump([Revision(0), Revision(1, [*FOLDERS, A_FILE]), Revision(2, [changed(A_FILE.path)], named)]))
 
 
+def headers(count: int) -> bytes:
+    """A record with many header lines that are not read."""
+    more = b"Text-content-md5: x\n" * count
+    node = bytes(A_FILE).replace(b"Node-action: add\n", b"Node-action: add\n" + more + b"X: y\n")
+    return dump_of(FOLDERS, []) + node
+
+
+def headings(count: int) -> bytes:
+    """A message, a path and a value of mergeinfo in which a record seems to begin again and again."""
+    words = b"Node-path: " * count
+    named = {b"svn:log": words, b"svn:author": words, b"svn:date": DATE}
+    nodes = [*FOLDERS, A_FILE, added(b"trunk/" + words, FILE), changed(b"trunk", mergeinfo(b"/%s:1" % words))]
+    return bytes(Dump([Revision(0), Revision(1, nodes, named), Revision(2, [deleted(A_FILE.path)], named)]))
+
+
 def deep_path(count: int) -> bytes:
     """Folders in one another, with a change of the deepest one."""
     paths = [b"trunk" + b"/d" * depth for depth in range(1, count + 1)]

@@ -6,7 +6,7 @@ from collections.abc import Iterable
 from typing import NamedTuple
 
 from svnask.copy.sections import MERGEINFO
-from svnask.copy.store import Node, Record
+from svnask.copy.store import BEGIN_OF_RECORD, Node, Record
 from svnask.digits import number
 from svnask.paths import NUL_FOR_SLASH, Place, clean, is_at_or_below, joined, rest_below, tops_of
 
@@ -16,7 +16,7 @@ LETTERS = {b"add": "A", b"change": "M", b"delete": "D", b"replace": "R"}
 OFFSET = re.compile(rb"\nAt: .*")
 SECTION = re.compile(rb"\nProp-content-length: ([0-9]{1,18})\nContent-length: .*\n\n")
 # The block of a record without a kind, as that of a deletion is.
-WITHOUT_KIND = re.compile(rb"Node-path: .*\n(?!Node-kind: )")
+WITHOUT_KIND = re.compile(BEGIN_OF_RECORD + rb".*\n(?!Node-kind: )")
 PLAIN = re.compile(
     rb"Node-path: (.*)\n(?:Node-kind: (.*)\n)?Node-action: (add|change|delete|replace)"
     rb"(?:\nNode-copyfrom-rev: ([0-9]+)\nNode-copyfrom-path: (.*))?(?:\nProp-delta: .*)?(?:\nText-delta: .*)?"

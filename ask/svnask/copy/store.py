@@ -41,10 +41,13 @@ OF_ALL = (
     rb"(?:Prop-content-length: (?P<length>[0-9]+)\nContent-length: [0-9]+\n)?\n"
 )
 BLOCK = re.compile(rb"\n*(?:Revision-number: (?P<rev>[0-9]+)\n|%s%s|UUID: [^\n]*\n)%s" % (PLACE, OF_RECORD, OF_ALL))
+# The begin of a block of a record where it is looked for. A line may have these words again and again.
+BEGIN_OF_RECORD = rb"Node-path: (?<![^\n]Node-path: )"
 # The block of a record that does more than to change a text or other properties than mergeinfo.
 TELLING = re.compile(
     rb"%s(?!Node-kind: |Node-action: change\n"
-    rb"(?:Prop-delta: .*\n)?(?:Text-delta: .*\n)?At: .*\n(?:Mods: .*\n)?\n)%s%s" % (PLACE, OF_RECORD, OF_ALL)
+    rb"(?:Prop-delta: .*\n)?(?:Text-delta: .*\n)?At: .*\n(?:Mods: .*\n)?\n)%s%s"
+    % (PLACE.replace(b"Node-path: ", BEGIN_OF_RECORD), OF_RECORD, OF_ALL)
 )
 # The block of a revision, and up to its message the properties that most have, in the order in which Subversion writes
 # them.

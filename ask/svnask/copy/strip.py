@@ -48,8 +48,9 @@ CHANGE = re.compile(
     rb"Text-content-length: ([0-9]{1,18})\n(?:Text-content-md5: .*\nText-content-sha1: .*\n)?"
     rb"Content-length: \2\n\n"
 )
-# The headers of a record in the orders in which Subversion writes them. Those of another one are read line by line.
-SKIPPED = rb"(?:Text-(?:copy-source|content|delta-base)-(?:md5|sha1): [^\n]*\n)*"
+# The headers of a record in the orders in which Subversion writes them. Those of another one are read line by line. Any
+# number of those that are skipped, in three places, would take a time that grows as the cube of the number.
+SKIPPED = rb"(?:Text-(?:copy-source|content|delta-base)-(?:md5|sha1): [^\n]*\n){0,6}"
 RECORD = re.compile(
     rb"\n*(Node-path: [^\n]*\n(?:Node-kind: [^\n]*\n)?Node-action: [^\n]*\n"
     rb"(?:Node-copyfrom-rev: [^\n]*\nNode-copyfrom-path: [^\n]*\n)?)"
@@ -210,7 +211,7 @@ class Stripper:
         return begin + whole
 
     def _note_copy(self, front: bytes) -> None:
-        found = COPY.search(front)
+        found = COPY.match(front)
         rev = len(self.index.revisions) - 1
         if found and number(found[2]) == rev - 1 and clean(found[1]) == clean(found[3]):
             self.index.renewals.append((rev, clean(found[1])))
