@@ -12,6 +12,7 @@ import time
 import unittest
 from collections.abc import Iterator
 from contextlib import closing
+from functools import partial
 from html.parser import HTMLParser
 from pathlib import Path
 from typing import TYPE_CHECKING, Any, NamedTuple
@@ -242,6 +243,28 @@ class Web(base.Case):
             self.assertIn(AT_ONCE, self.got_first(opened, "/path/trunk").content)
             is_over.set()
             self.assertIn("/trunk", self.got(opened, "/path/trunk").text)
+
+    def test_few_answers_are_found_at_once(self) -> None:
+        answers, is_over, index = renewed.KeptAnswers(), threading.Event(), self.history(base.dump_of("branches")).index
+        found: list[int] = []
+
+        def begin(number: int) -> renewed.Make:
+            def make() -> renewed.KeptAnswer:
+                found.append(number)
+                is_over.wait()
+                return renewed.KeptAnswer(number, [], None, index)
+
+            return make
+
+        def asked_for(number: int, patience: float) -> object:
+            answer = answers.of(str(number), index, partial(begin, number), patience)
+            return None if answer is None else answer.value
+
+        numbers = range(renewed.MOST_FOUND + 5)
+        self.assertEqual([asked_for(number, 0.01) for number in numbers], [None] * len(numbers))
+        self.assertEqual(found, [*range(renewed.MOST_FOUND)])
+        is_over.set()
+        self.assertEqual([asked_for(number, 60) for number in numbers], [*numbers])
 
     def test_a_failure_is_told_once(self) -> None:
         opened = self.opened(base.dump_of("branches"))

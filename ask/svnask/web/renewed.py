@@ -15,8 +15,8 @@ from svnask.copy.index import Index
 from svnask.errors import Error
 from svnask.history.open_history import OpenHistory
 
-# How many seconds pass before the source is looked at again, and how many answers are kept.
-PAUSE, MOST_KEPT = 2.0, 16
+# How many seconds pass before the source is looked at again, how many answers are kept, and how many are found at once.
+PAUSE, MOST_KEPT, MOST_FOUND = 2.0, 16, 8
 
 
 class KeptAnswer(NamedTuple):
@@ -32,7 +32,8 @@ Make = Callable[[], KeptAnswer]
 
 
 class KeptAnswers:
-    """Answers that take long to find. They are found in threads of their own, each once for a history."""
+    """Answers that take long to find. They are found in threads of their own, each once for a history and few at once.
+    What finds one may not ask for another one of these."""
 
     def __init__(self) -> None:
         self._kept: dict[str, KeptAnswer] = {}
@@ -51,9 +52,9 @@ class KeptAnswers:
         """Return an answer about a history, or the last one about an older state of it, if it is there in time."""
         made: Future[KeptAnswer] | None = None
         if not self.has(name, index):
-            with self._lock:
-                made = self._made.get(name) or self._begin(name, begin())
-            futures.wait([made], patience)
+            until = None if patience is None else time.monotonic() + patience
+            made = self._begun(name, begin, until)
+            futures.wait([made] if made is not None else [], left(until))
         with self._lock:
             found = self._kept.get(name)
             if found is not None and found.error is not None:
@@ -62,6 +63,18 @@ class KeptAnswers:
         if found is None and made is not None and made.done():
             found = made.result()
         return found if found is not None and is_older(found.of, index) else None
+
+    def _begun(self, name: str, begin: Callable[[], Make], until: float | None) -> Future[KeptAnswer] | None:
+        """Return an answer that is being found, which others may have to be before. None if these are not soon enough."""
+        while True:
+            with self._lock:
+                if name in self._made:
+                    return self._made[name]
+                if len(self._made) < MOST_FOUND:
+                    return self._begin(name, begin())
+                others = list(self._made.values())
+            if not futures.wait(others, left(until), futures.FIRST_COMPLETED).done:
+                return None
 
     def _begin(self, name: str, make: Make) -> Future[KeptAnswer]:
         made: Future[KeptAnswer] = Future()
@@ -77,6 +90,11 @@ class KeptAnswers:
             self._kept[name] = answer
             del self._made[name]
         made.set_result(answer)
+
+
+def left(until: float | None) -> float | None:
+    """Return how many seconds are left until a time, which may be none."""
+    return None if until is None else max(until - time.monotonic(), 0)
 
 
 def is_older(one: Index, other: Index) -> bool:
