@@ -33,7 +33,7 @@ SHAPES: dict[Callable[[int], bytes], int] = {
     shapes.properties: 50000,
     shapes.wide_value: 500000,
     shapes.long_message: 5000000,
-    shapes.headings: 20000,
+    shapes.fragments: 100000,
 }
 # What stands for an argument, by its name in the help.
 ARGUMENTS = {"PATH[@PEG]": "trunk", "REV": "2", "FROM[@PEG]": "trunk@1", "TO[@PEG]": "trunk", "K": "3", "B": "100"}

@@ -1,6 +1,7 @@
 """Dumps of histories of odd shapes, in which something grows as the square that should not."""
 from __future__ import annotations
 
+import re
 from dataclasses import replace
 
 from dev.dumps import FILE, Dump, Node, Revision, added, changed, copied, deleted, dump_of, mergeinfo, section
@@ -8,6 +9,13 @@ from dev.dumps import FILE, Dump, Node, Revision, added, changed, copied, delete
 FOLDERS = [added(b"trunk"), added(b"branches")]
 A_FILE = added(b"trunk/f", FILE)
 DATE = b"2024-01-01T00:00:00.000000Z"
+# What looks like a part of a dump, or is more than one letter for whoever prints it; and what no name has.
+FRAGMENTS = (
+    *(b"Node-path: ", b"\nNode-path: a\n", b"\nNode-kind: dir\nNode-action: add\n", b"At: 1\n", b"K 1\na\nV 1\n"),
+    *(b"Prop-content-length: 10\nContent-length: 10\n\n", b"Revision-number: 3\n\n", b"PROPS-END\n", b"\n", b"\r"),
+    *(b"e\xcc\x81", b"\xcc\x81", b"\x00\xff", b"&<]]>", b"*[", b"@", b"1,", b":1\n", b"`-=", b"\xf0\x9f\x98\x80"),
+)
+NO_NAME = re.compile(rb"[\n\x00/]")
 
 
 def names(count: int) -> list[bytes]:
@@ -115,12 +123,21 @@ def headers(count: int) -> bytes:
     return dump_of(FOLDERS, []) + node
 
 
-def headings(count: int) -> bytes:
-    """A message, a path and a value of mergeinfo in which a record seems to begin again and again."""
-    words = b"Node-path: " * count
-    named = {b"svn:log": words, b"svn:author": words, b"svn:date": DATE}
-    nodes = [*FOLDERS, A_FILE, added(b"trunk/" + words, FILE), changed(b"trunk", mergeinfo(b"/%s:1" % words))]
-    return bytes(Dump([Revision(0), Revision(1, nodes, named), Revision(2, [deleted(A_FILE.path)], named)]))
+def fragments(count: int) -> bytes:
+    """Messages, authors, paths and values of mergeinfo that are one fragment again and again, so many bytes long."""
+    revisions = [Revision(0), Revision(1, [*FOLDERS, A_FILE])]
+    for fragment in FRAGMENTS:
+        text = fragment * (count // len(fragment))
+        name = NO_NAME.sub(b"-", text)
+        nodes = [
+            added(b"trunk/" + name, FILE),
+            changed(b"branches", mergeinfo(b"/%s:1" % name)),
+            deleted(b"trunk/" + name),
+        ]
+        named = {b"svn:log": text, b"svn:author": text, b"svn:date": DATE}
+        revisions.append(Revision(len(revisions), nodes[:2], named))
+        revisions.append(Revision(len(revisions), nodes[2:]))
+    return bytes(Dump(revisions))
 
 
 def deep_path(count: int) -> bytes:

@@ -7,7 +7,7 @@ from collections.abc import Callable
 from unittest import mock
 
 from dev.dumps import added, dump_of
-from dev.shapes import chain, copies, deletions, directories, headers, headings, long_name, long_value, renames
+from dev.shapes import chain, copies, deletions, directories, fragments, headers, long_name, long_value, renames
 from svnask.branches import questions
 from svnask.engine import talk as engine
 from svnask.history.lives import Life, moves_of
@@ -64,7 +64,7 @@ class Shapes(base.Case):
             (renames, 1500, "unmerged"),
             (long_name, 10000, "graph"),
             (headers, 400, "info --no-cache"),
-            (headings, 5000, "branches; graph; log -v --json"),
+            (fragments, 50000, "branches; graph; log -v --json; log --search a*b*c; new trunk@1 trunk; migration"),
         )
         for shape, size, asked in rows:
             dumps = [str(self.made(f"{shape.__name__}{times}", shape(size * times))) for times in (1, 2)]
