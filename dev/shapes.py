@@ -97,6 +97,29 @@ def renames(count: int) -> bytes:
     return dump_of(*steps)
 
 
+def made_again(count: int) -> bytes:
+    """A folder that is deleted and made again and again, at first with many branches in it."""
+    again = ([deleted(b"branches")] if number % 2 else [added(b"branches")] for number in range(1, count + 1))
+    return dump_of(FOLDERS, [copied(name, b"trunk", 1) for name in names(count)], *again)
+
+
+def copied_into_folders(count: int) -> bytes:
+    """A revision that makes many folders, with a copy in each."""
+    folders = [b"trunk/d%d" % number for number in range(count)]
+    nodes = [node for folder in folders for node in (added(folder), copied(folder + b"/f", A_FILE.path, 1))]
+    return dump_of([*FOLDERS, A_FILE], nodes)
+
+
+def renewed(count: int) -> bytes:
+    """A file that is renamed again and again, below a folder that is copied onto itself in between."""
+    steps: list[list[Node]] = [[*FOLDERS, A_FILE]]
+    files = [A_FILE.path, *(b"trunk/f%d" % number for number in range(count)), b"trunk/last"]
+    for before, after in zip(files, files[1:]):
+        steps.append([copied(b"trunk", b"trunk", len(steps), b"replace")])
+        steps.append([copied(after, before, len(steps)), deleted(before)])
+    return dump_of(*steps)
+
+
 def wide_value(count: int) -> bytes:
     """A value of so many bytes, of every other revision of the trunk."""
     changes = ([changed(A_FILE.path, text=b"%d" % number)] for number in range(count // 50))

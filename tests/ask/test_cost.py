@@ -6,8 +6,8 @@ import unittest
 from collections.abc import Callable
 from unittest import mock
 
+from dev import shapes
 from dev.dumps import added, dump_of
-from dev.shapes import chain, copies, deletions, directories, fragments, headers, long_name, long_value, renames
 from svnask.branches import questions
 from svnask.engine import talk as engine
 from svnask.history.lives import Life, moves_of
@@ -56,15 +56,22 @@ class Shapes(base.Case):
 
     def test_no_time_grows_as_the_square(self) -> None:
         rows: tuple[tuple[Callable[[int], bytes], int, str], ...] = (
-            (deletions, 3000, "show 3; log -v"),
-            (directories, 1500, "branches; contains 2; graph; unmerged; changed-tags"),
-            (copies, 1500, "branches; graph; contains 2; unmerged"),
-            (chain, 800, "branches; graph; contains 2"),
-            (long_value, 1500, "log -g trunk; graph; new branches/b0 trunk; contains 5; unmerged"),
-            (renames, 1500, "unmerged"),
-            (long_name, 10000, "graph"),
-            (headers, 400, "info --no-cache"),
-            (fragments, 50000, "branches; graph; log -v --json; log --search a*b*c; new trunk@1 trunk; migration"),
+            (shapes.deletions, 3000, "show 3; log -v"),
+            (shapes.directories, 1500, "branches; contains 2; graph; unmerged; changed-tags"),
+            (shapes.copies, 1500, "branches; graph; contains 2; unmerged"),
+            (shapes.chain, 800, "branches; graph; contains 2"),
+            (shapes.long_value, 1500, "log -g trunk; graph; new branches/b0 trunk; contains 5; unmerged"),
+            (shapes.renames, 1500, "unmerged"),
+            (shapes.long_name, 10000, "graph"),
+            (shapes.made_again, 1500, "branches"),
+            (shapes.copied_into_folders, 3000, "new trunk@1 trunk"),
+            (shapes.renewed, 3000, "log -q trunk/last"),
+            (shapes.headers, 400, "info --no-cache"),
+            (
+                shapes.fragments,
+                50000,
+                "branches; graph; log -v --json; log --search a*b*c; new trunk@1 trunk; migration",
+            ),
         )
         for shape, size, asked in rows:
             dumps = [str(self.made(f"{shape.__name__}{times}", shape(size * times))) for times in (1, 2)]

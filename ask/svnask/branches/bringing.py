@@ -9,7 +9,7 @@ from svnask.engine.queries import Log, is_askable
 from svnask.history.open_history import OpenHistory
 from svnask.masks import mask_between, mask_of_revisions, members_of
 from svnask.merges.value_changes import Differences
-from svnask.paths import is_at_or_below, joined, rest_below
+from svnask.paths import is_at_or_below, joined, rest_below, tops_above
 
 
 class AskedOrigin(NamedTuple):
@@ -22,11 +22,11 @@ class AskedOrigin(NamedTuple):
 
 def is_copy_alone(changes: list[Change]) -> bool:
     """Return whether a revision copied, made folders above a copy, deleted what it copied, and changed nothing else."""
-    copies = [change.path for change in changes if change.source is not None]
+    above = tops_above(change.path for change in changes if change.source is not None)
     sources = {change.source[0] for change in changes if change.source is not None}
     return bool(changes) and all(
         change.source is not None
-        or (change.letter == "A" and any(is_at_or_below(path, change.path) for path in copies))
+        or (change.letter == "A" and change.path in above)
         or (change.letter == "D" and change.path in sources)
         for change in changes
     )

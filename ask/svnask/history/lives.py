@@ -50,6 +50,9 @@ class Event(NamedTuple):
     source: Place | None
 
 
+BEFORE_ALL = Event(0, 0, "", None)
+
+
 class Tree:
     """The paths of all revisions, by the records that made or unmade them."""
 
@@ -304,7 +307,9 @@ class Tree:
     def lives(self, path: bytes, head: int) -> Iterator[Life]:
         """The lives of a path, the first one first. That of the root begins with revision 0."""
         life = Life(path, 0, head, None, True) if path == b"/" else None
-        for top, event in self.events(path):
+        event = BEFORE_ALL
+        while found := self._next(path, event, life is not None):
+            event, top = found
             is_there = self.after(path, top, event)
             if life is not None and life.first < event.rev:
                 yield life._replace(last=event.rev - 1, is_alive=False)
@@ -312,6 +317,25 @@ class Tree:
             life = Life(path, event.rev, head, source, True) if is_there else None
         if life is not None:
             yield life
+
+    def _next(self, path: bytes, last: Event, is_there: bool) -> tuple[Event, bytes] | None:
+        """Return the first event after one that may make or unmake a path, with the path of the event. Above a path that
+        is not there a copy alone can make it, however often a directory was made and deleted."""
+        found: list[tuple[Event, bytes]] = []
+        for top in tops_of(path):
+            events = (self._events if is_there or top == path else self._copied).get(top, [])
+            at = bisect.bisect_right(events, last)
+            if at < len(events):
+                found.append((events[at], top))
+        return min(found, default=None)
+
+    @functools.cached_property
+    def _copied(self) -> dict[bytes, list[Event]]:
+        """The events of paths that are copies."""
+        found: dict[bytes, list[Event]] = {}
+        for path, event in self.copies:
+            found.setdefault(path, []).append(event)
+        return found
 
 
 def moves_of(lives: Sequence[Life]) -> dict[Life, Life]:

@@ -107,15 +107,13 @@ def trace(history: OpenHistory, target: Target) -> Trace | None:
 def renewed(history: OpenHistory, segments: list[Segment]) -> Iterator[int]:
     """The revisions in which a path came with a copy of a path above it from the revision before to itself. `svn log`
     lists them, and for svnhist nothing happens to the path there."""
+    rising = segments[::-1]
+    ends = [segment.hi for segment in rising]
     for rev, top in history.index.renewals:
-        for segment in segments:
-            if (
-                segment.path is not None
-                and segment.lo < rev <= segment.hi
-                and segment.path != top
-                and is_at_or_below(segment.path, top)
-            ):
-                yield rev
+        at = bisect.bisect_left(ends, rev)
+        path = rising[at].path if at < len(rising) and rising[at].lo < rev else None
+        if path is not None and path != top and is_at_or_below(path, top):
+            yield rev
 
 
 def may_list_more(history: OpenHistory) -> bool:
