@@ -19,6 +19,10 @@ REFUSED = 1
 NOTHING, PIPE = Path(os.devnull), Path("/dev/stdin")
 OWN_PEAK = ROOT / "bench" / "own_peak.py"
 PIECE = 1 << 20
+# A loop of Python, and the seconds that it takes on the machine for which limits in seconds are. On one that is slower,
+# or that other work makes slower at the time, they are as much greater.
+LOOP, USUAL = "a loop of Python", 1.0
+LOOPING = "sum(number * number % 7 for number in range(10**7))"
 # How often is measured what misses a limit: other work on the machine may have taken the time.
 ATTEMPTS = 4
 Key = TypeVar("Key")
@@ -79,6 +83,15 @@ def command(words: Words, *, feeder: Words | None = None, status: int = 0, is_ke
         return taken
 
     return run
+
+
+def loop() -> Run:
+    return command([sys.executable, "-I", "-S", "-c", LOOPING])
+
+
+def slowness(seconds: float) -> float:
+    """Return how much greater limits are where the loop takes so many seconds."""
+    return max(seconds / USUAL, 1.0)
 
 
 def own_peak(taken: Measured) -> int:

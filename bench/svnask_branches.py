@@ -11,7 +11,7 @@ from contextlib import contextmanager
 from pathlib import Path
 
 from bench.histories import branchy, write
-from bench.measure import Run, Setup, command, walls
+from bench.measure import LOOP, Run, Setup, command, loop, slowness, walls
 from bench.tables import Limited, Row, Table, Tables
 
 REVISIONS = 100000
@@ -42,21 +42,22 @@ def served(setup: Setup, dump: Path) -> Iterator[None]:
 
 
 def is_met(seconds: dict[str, float]) -> bool:
-    return all(seconds[name] - seconds["info"] <= most for name, most in VERBS.items())
+    return all(seconds[name] - seconds["info"] <= most * slowness(seconds[LOOP]) for name, most in VERBS.items())
 
 
 def measured(setup: Setup) -> Tables:
     """svnask about a history with many branches: verbs about all of them, logs with what was merged, and a server."""
     dump = write(setup.folder / "branches", branchy(setup.scaled(REVISIONS)))
     runs: dict[str, Run] = {name: command(setup.svnask(dump, *name.split())) for name in ("info", *VERBS)}
-    seconds = walls(runs, setup.times, is_met)
+    seconds = walls({LOOP: loop(), **runs}, setup.times, is_met)
+    slower = slowness(seconds[LOOP])
     with served(setup, dump):
         question = command(setup.svnask(dump, "log", "-q", "-l", "1", "trunk"))
-        reply = walls({"": question}, setup.times, lambda found: found[""] <= MOST_OF_SERVER)[""]
-    rows: list[Row] = [["reading, and `info`", seconds["info"], None]]
+        reply = walls({"": question}, setup.times, lambda found: found[""] <= MOST_OF_SERVER * slower)[""]
+    rows: list[Row] = [[LOOP, seconds[LOOP], None], ["reading, and `info`", seconds["info"], None]]
     rows += [
-        [f"`{name}`", seconds[name], Limited(max(0, seconds[name] - seconds["info"]), most)]
+        [f"`{name}`", seconds[name], Limited(max(0, seconds[name] - seconds["info"]), most * slower)]
         for name, most in VERBS.items()
     ]
-    rows.append(["`log -q -l 1 trunk` by a server", reply, Limited(reply, MOST_OF_SERVER)])
+    rows.append(["`log -q -l 1 trunk` by a server", reply, Limited(reply, MOST_OF_SERVER * slower)])
     yield Table("svnask-branches", "what runs | s:.2f | beyond `info`, s:.2f", rows)

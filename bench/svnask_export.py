@@ -8,7 +8,7 @@ import itertools
 from pathlib import Path
 
 from bench.histories import CHANGES, generated
-from bench.measure import Run, Setup, command, walls
+from bench.measure import LOOP, Run, Setup, command, loop, slowness, walls
 from bench.tables import Limited, Row, Table, Tables
 from dev.dumps import Revision, changed
 from dev.running import Measured
@@ -39,17 +39,22 @@ def later_export(setup: Setup, dump: Path, database: Path, count: int) -> Run:
     return run
 
 
+def limited(run: Run, times: int, most: float) -> Limited:
+    """Return the seconds of a run, and how many it may take."""
+    found = walls({run: run, LOOP: loop()}, times, lambda each: each[run] <= most * slowness(each[LOOP]))
+    return Limited(found[run], most * slowness(found[LOOP]))
+
+
 def measured(setup: Setup) -> Tables:
     """`svnask export`: a database of 120,000 revisions with 490,000 changes, and one that gets a revision more."""
     count = setup.scaled(REVISIONS)
     dump, database = generated(setup.folder / "exported", CHANGES, count).dump, setup.folder / "exported.db"
     command(setup.svnask(dump, "info"))()
-    runs = {"": new_export(setup, dump, database)}
-    seconds = walls(runs, setup.times, lambda found: found[""] <= MOST_SECONDS)[""]
+    new = limited(new_export(setup, dump, database), setup.times, MOST_SECONDS)
     megabytes = setup.own_megabytes(dump, "export", setup.folder / "other.db")
-    later = walls({"": later_export(setup, dump, database, count)}, 1, lambda found: found[""] <= MOST_OF_LATER)[""]
+    later = limited(later_export(setup, dump, database, count), 1, MOST_OF_LATER)
     rows: list[Row] = [
-        ["a new database", Limited(seconds, MOST_SECONDS), Limited(megabytes, MOST_MEGABYTES)],
-        ["a revision more", Limited(later, MOST_OF_LATER), None],
+        ["a new database", new, Limited(megabytes, MOST_MEGABYTES)],
+        ["a revision more", later, None],
     ]
     yield Table("svnask-export", "what is made | s:.2f | peak MB of Python:.0f", rows)

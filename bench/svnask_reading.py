@@ -12,7 +12,7 @@ from dataclasses import replace
 from functools import partial
 
 from bench.histories import RELEASES, Generated, Peg, generated
-from bench.measure import PROCESSOR, Run, Setup, best_in_turns, command
+from bench.measure import LOOP, PROCESSOR, Run, Setup, best_in_turns, command, loop, slowness
 from bench.questions import line
 from bench.tables import Cell, Limited, Row, Table, Tables
 from dev.running import Failed, Measured
@@ -62,8 +62,8 @@ class Commands:
 
 
 def is_met(most: float, costs: dict[str, float]) -> bool:
-    beside, ours = costs.values()
-    return ours <= most * beside
+    beside, ours, *_ = costs.values()
+    return ours <= most * slowness(costs.get(LOOP, 0)) * beside
 
 
 def measured(setup: Setup) -> Tables:
@@ -76,15 +76,17 @@ def measured(setup: Setup) -> Tables:
     lines = command(later, is_kept=True)().outcome.output.count(b"\nr")
     count = setup.scaled(LINES) // lines
     pairs: list[dict[str, Run]] = [
-        {GREP: grep, FIRST: asked.first},
+        # `grep` waits for memory, and a slow machine hardly slows it.
+        {GREP: grep, FIRST: asked.first, LOOP: loop()},
         {ALONE: asked.alone(1), LATER: command(later)},
         {MANY: asked.alone(count), MODULE: asked.module(count, lines)},
     ]
     rows: list[Row] = []
     for runs, most in zip(pairs, (MOST_OF_GREP, MOST_OF_PROGRAM, MOST_OF_LINES)):
         taken = best_in_turns(runs, setup.times, PROCESSOR, partial(is_met, most))
-        name, ours = runs
+        name, ours, *_ = runs
         beside, our = taken[name], taken[ours]
+        most *= slowness(taken[LOOP].processor if LOOP in taken else 0)
         memory: Cell = Limited(peak, MOST_MEGABYTES) if ours == FIRST else None
         rows.append([name, beside.processor, None, None])
         rows.append([ours, our.processor, Limited(our.processor / beside.processor, most), memory])

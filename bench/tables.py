@@ -30,7 +30,7 @@ Row = Sequence[Cell]
 def shown(cell: Cell, form: str) -> str:
     """Return a cell as words, its number in a form of `format`."""
     if isinstance(cell, Limited):
-        return f"{format(cell.value, form)} of {cell.most:g}{'' if cell.is_met else ' ' + NOT_MET}"
+        return f"{format(cell.value, form)} of {cell.most:.3g}{'' if cell.is_met else ' ' + NOT_MET}"
     if cell is None:
         return ""
     return cell if isinstance(cell, str) else format(cell, form)
