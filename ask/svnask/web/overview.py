@@ -15,7 +15,7 @@ from svnask.web.asked import Asked
 from svnask.web.request import Request
 from svnask.web.site import OwnLinks, Page, address
 
-TABLE = ("branches", "--ahead-behind=", "--log")
+TABLE, PLAIN = ("branches", "--ahead-behind=", "--log"), ["graph"]
 # What may be chosen of the picture.
 CHOSEN = ("since", "until", "height", "width")
 
@@ -24,7 +24,7 @@ def overview(asked: Asked, request: Request) -> Page:
     """Return the branches and tags by their projects, and the picture that a query chooses."""
     chosen = {name: request.value(name) for name in CHOSEN if request.value(name)}
     flags = [name for name in ("by-time", "unfolded") if name in request.query]
-    words = ["graph", *(f"--{name}={value}" for name, value in chosen.items()), *(f"--{name}" for name in flags)]
+    words = [*PLAIN, *(f"--{name}={value}" for name, value in chosen.items()), *(f"--{name}" for name in flags)]
     rows = rows_of(asked)
     of_picture = {**chosen, **{name: "1" for name in flags}}
     picture = picture_of(asked, words, request.root)
@@ -55,11 +55,11 @@ def rows_of(asked: Asked) -> list[Object] | None:
 
 
 class ShownPicture(NamedTuple):
-    """A picture, how high one is that leaves nothing out of it, and the graph of all."""
+    """A picture, how high one is that leaves nothing out of it, and if nothing was chosen the graph of all."""
 
     svg: Markup
     left: int | None
-    whole: Graph
+    whole: Graph | None
 
 
 class ProjectRows(NamedTuple):
@@ -95,6 +95,6 @@ def picture_of(asked: Asked, words: list[str], root: str) -> ShownPicture | None
 def drawn(asked: Asked, words: list[str], root: str) -> ShownPicture:
     whole, fitted = drawn_of(asked.history, [], asked.given(words[0], words[1:], is_json=False))
     pieces = svg_of(asked.history, fitted, OwnLinks(root), has_style=False)
-    return ShownPicture(
-        Markup(b"".join(pieces).decode("utf-8")), None if fitted.left is None else fitted.left.height, whole
-    )
+    svg = Markup(b"".join(pieces).decode("utf-8"))
+    # Of the graphs of chosen pictures, which are large, none is asked for.
+    return ShownPicture(svg, fitted.left and fitted.left.height, whole if words == PLAIN else None)

@@ -9,7 +9,7 @@ from svnask.history.lives import Life
 from svnask.picture.graph import Graph, LaneMerge
 from svnask.texts import decoded
 from svnask.web.asked import Asked
-from svnask.web.overview import picture_of
+from svnask.web.overview import PLAIN, picture_of
 from svnask.web.request import Request
 from svnask.web.site import Page, address
 
@@ -33,8 +33,8 @@ def revision(asked: Asked, request: Request) -> Page:
     (found,) = asked.objects("show", "--", text)
     rev = found["revision"]
     # The picture of all is that of the first page.
-    picture = picture_of(asked, ["graph"], request.root)
-    here, there = ([], []) if picture is None else merges_at(picture.whole, rev)
+    picture = picture_of(asked, PLAIN, request.root)
+    here, there = ([], []) if picture is None or picture.whole is None else merges_at(picture.whole, rev)
     values = {
         "rev": rev,
         "found": found,
