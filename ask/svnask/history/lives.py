@@ -99,7 +99,10 @@ class Tree:
         newest: Event | None = None
         place = path
         for top in tops_of(path):
-            events = self._events.get(top, [])
+            events = self._events.get(top)
+            # Mostly none above came later than what made the path.
+            if not events or (newest is not None and events[-1].number < newest.number):
+                continue
             at = count_up_to(events, rev)
             if at and (newest is None or newest.number < events[at - 1].number):
                 newest, place = events[at - 1], top
