@@ -2,14 +2,16 @@
 from __future__ import annotations
 
 import os
+import subprocess
 import sys
-from collections.abc import Iterable, Mapping
+import time
+from collections.abc import Iterable, Mapping, Sequence
 from dataclasses import dataclass
 from operator import attrgetter
 from pathlib import Path
 from typing import Callable, TypeVar
 
-from dev.running import Failed, Measured, Words, measure
+from dev.running import Failed, Measured, Outcome, Words, measure
 from dev.tree import ROOT, SVNASK
 
 # A quick run has input of so many times less size.
@@ -19,10 +21,11 @@ REFUSED = 1
 NOTHING, PIPE = Path(os.devnull), Path("/dev/stdin")
 OWN_PEAK = ROOT / "bench" / "own_peak.py"
 PIECE = 1 << 20
-# A loop of Python, and the seconds that it takes on the machine for which limits in seconds are. On one that is slower,
-# or that other work makes slower at the time, they are as much greater.
-LOOP, USUAL = "a loop of Python", 1.0
-LOOPING = "sum(number * number % 7 for number in range(10**7))"
+# A loop of Python, by one process or by one for each processor, and the seconds that it takes on the machine for which
+# limits in seconds are. On one that is slower, or that other work makes slower at the time, they are as much greater.
+LOOP, USUAL = "a loop of Python", 3.0
+LOOPING = "sum(number * number % 7 for number in range(3 * 10**7))"
+PROCESSORS = len(os.sched_getaffinity(0))
 # How often is measured what misses a limit: other work on the machine may have taken the time.
 ATTEMPTS = 4
 Key = TypeVar("Key")
@@ -85,8 +88,23 @@ def command(words: Words, *, feeder: Words | None = None, status: int = 0, is_ke
     return run
 
 
-def loop() -> Run:
-    return command([sys.executable, "-I", "-S", "-c", LOOPING])
+def at_once(commands: Sequence[Words]) -> Run:
+    """Return a run of several commands at once, with the processor seconds of one of them at the mean."""
+
+    def run() -> Measured:
+        began, before = time.perf_counter(), os.times()
+        children = [subprocess.Popen(words, stdout=subprocess.DEVNULL) for words in commands]
+        if any([child.wait() for child in children]):
+            raise Failed("a process of several failed")
+        wall, after = time.perf_counter() - began, os.times()
+        processor = after.children_user + after.children_system - before.children_user - before.children_system
+        return Measured(wall, processor / len(commands), 0, Outcome(0, b"", b""))
+
+    return run
+
+
+def loop(count: int = 1) -> Run:
+    return at_once([[sys.executable, "-I", "-S", "-c", LOOPING]] * count)
 
 
 def slowness(seconds: float) -> float:

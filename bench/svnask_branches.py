@@ -11,7 +11,7 @@ from contextlib import contextmanager
 from pathlib import Path
 
 from bench.histories import branchy, write
-from bench.measure import LOOP, Run, Setup, command, loop, slowness, walls
+from bench.measure import LOOP, PROCESSORS, Run, Setup, command, loop, slowness, walls
 from bench.tables import Limited, Row, Table, Tables
 
 REVISIONS = 100000
@@ -49,12 +49,15 @@ def measured(setup: Setup) -> Tables:
     """svnask about a history with many branches: verbs about all of them, logs with what was merged, and a server."""
     dump = write(setup.folder / "branches", branchy(setup.scaled(REVISIONS)))
     runs: dict[str, Run] = {name: command(setup.svnask(dump, *name.split())) for name in ("info", *VERBS)}
-    seconds = walls({LOOP: loop(), **runs}, setup.times, is_met)
+    seconds = walls({LOOP: loop(PROCESSORS), **runs}, setup.times, is_met)
     slower = slowness(seconds[LOOP])
     with served(setup, dump):
         question = command(setup.svnask(dump, "log", "-q", "-l", "1", "trunk"))
         reply = walls({"": question}, setup.times, lambda found: found[""] <= MOST_OF_SERVER * slower)[""]
-    rows: list[Row] = [[LOOP, seconds[LOOP], None], ["reading, and `info`", seconds["info"], None]]
+    rows: list[Row] = [
+        [f"{LOOP} on each processor", seconds[LOOP], None],
+        ["reading, and `info`", seconds["info"], None],
+    ]
     rows += [
         [f"`{name}`", seconds[name], Limited(max(0, seconds[name] - seconds["info"]), most * slower)]
         for name, most in VERBS.items()

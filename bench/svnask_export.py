@@ -8,7 +8,7 @@ import itertools
 from pathlib import Path
 
 from bench.histories import CHANGES, generated
-from bench.measure import LOOP, Run, Setup, command, loop, slowness, walls
+from bench.measure import LOOP, PROCESSORS, Run, Setup, command, loop, slowness, walls
 from bench.tables import Limited, Row, Table, Tables
 from dev.dumps import Revision, changed
 from dev.running import Measured
@@ -41,7 +41,7 @@ def later_export(setup: Setup, dump: Path, database: Path, count: int) -> Run:
 
 def limited(run: Run, times: int, most: float) -> Limited:
     """Return the seconds of a run, and how many it may take."""
-    found = walls({run: run, LOOP: loop()}, times, lambda each: each[run] <= most * slowness(each[LOOP]))
+    found = walls({run: run, LOOP: loop(PROCESSORS)}, times, lambda each: each[run] <= most * slowness(each[LOOP]))
     return Limited(found[run], most * slowness(found[LOOP]))
 
 

@@ -12,7 +12,7 @@ from functools import partial
 from pathlib import Path
 from typing import Callable, NamedTuple
 
-from bench.measure import PROCESSOR, Setup, best_in_turns, own_peak
+from bench.measure import LOOP, PROCESSOR, Setup, best_in_turns, loop, own_peak, slowness
 from bench.tables import Limited, Row, Table, Tables
 from dev import shapes
 from dev.running import Failed, Measured, measure
@@ -71,12 +71,13 @@ def questions(queries: Path) -> Iterator[list[str]]:
     yield from MORE
 
 
-def times_of(once: float, twice: float) -> float:
-    return twice / max(once, LEAST)
+def times_of(once: float, twice: float, slower: float) -> float:
+    return twice / max(once, LEAST * slower)
 
 
-def is_met(once: float, twice: float) -> bool:
-    return times_of(once, twice) <= MOST_TIMES and twice <= MOST_SECONDS
+def is_met(slower: float, costs: dict[Path, float]) -> bool:
+    once, twice = costs.values()
+    return times_of(once, twice, slower) <= MOST_TIMES and twice <= MOST_SECONDS * slower
 
 
 class Found(NamedTuple):
@@ -85,10 +86,12 @@ class Found(NamedTuple):
     words: str
     once: Measured
     twice: Measured
+    # How much slower the machine is at the time than that for which limits are.
+    slower: float
 
     @property
     def times(self) -> float:
-        return times_of(self.once.processor, self.twice.processor)
+        return times_of(self.once.processor, self.twice.processor, self.slower)
 
 
 def asked(setup: Setup, dump: Path, words: list[str]) -> Measured:
@@ -100,11 +103,12 @@ def asked(setup: Setup, dump: Path, words: list[str]) -> Measured:
     return taken._replace(peak=own_peak(taken))
 
 
-def found_of(setup: Setup, dumps: list[Path], words: list[str]) -> Found:
+def found_of(setup: Setup, dumps: list[Path], words: list[str], slower: float) -> Found:
     runs = {dump: partial(asked, setup, dump, words) for dump in dumps}
-    best = best_in_turns(runs, setup.times, PROCESSOR, lambda costs: is_met(*costs.values()))
+    best = best_in_turns(runs, setup.times, PROCESSOR, partial(is_met, slower))
     verb = " ".join([words[0], *(word for word in words if word.startswith("-"))])
-    return Found(verb, *(best[dump] for dump in dumps))
+    once, twice = (best[dump] for dump in dumps)
+    return Found(verb, once, twice, slower)
 
 
 def rows_of(setup: Setup, shape: Callable[[int], bytes], size: int) -> Iterator[Row]:
@@ -114,15 +118,15 @@ def rows_of(setup: Setup, shape: Callable[[int], bytes], size: int) -> Iterator[
         dumps.append(setup.folder / f"{shape.__name__}-{times}")
         dumps[-1].write_bytes(shape(size * times))
         asked(setup, dumps[-1], ["info"])
-    found = [
-        found_of(setup, dumps, words) for words in questions(queries) if (shape.__name__, words[0]) not in AS_THE_SQUARE
-    ]
+    slower = slowness(best_in_turns({LOOP: loop()}, setup.times, PROCESSOR)[LOOP].processor)
+    asked_about = [words for words in questions(queries) if (shape.__name__, words[0]) not in AS_THE_SQUARE]
+    found = [found_of(setup, dumps, words, slower) for words in asked_about]
     name = shape.__name__.replace("_", " ")
     grown = max(found, key=lambda each: each.times)
     longest = max(found, key=lambda each: each.twice.processor)
     largest = max(found, key=lambda each: each.twice.peak)
     yield [name, grown.words, Limited(grown.times, MOST_TIMES), None, None]
-    yield [name, longest.words, None, Limited(longest.twice.processor, MOST_SECONDS), None]
+    yield [name, longest.words, None, Limited(longest.twice.processor, MOST_SECONDS * slower), None]
     yield [name, largest.words, None, None, Limited(largest.twice.peak / 1e6, MOST_MEGABYTES)]
 
 

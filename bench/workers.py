@@ -9,16 +9,13 @@ each with the queries of one worker in four.
 """
 from __future__ import annotations
 
-import subprocess
-import time
 from collections.abc import Iterator
 from random import Random
 
 from bench.histories import SHORT, Peg, generated, write_source
-from bench.measure import NOTHING, Run, Setup, walls
+from bench.measure import Run, Setup, at_once, walls
 from bench.questions import Asked, drawn, line
 from bench.tables import Limited, Row, Table, Tables
-from dev.running import Failed, Measured, Outcome
 
 ASKED = {"locate": 240000, "segments": 234000, "log": 42000, "mergeinfo": 160000, "merged": 100000, "eligible": 24000}
 REVISIONS, UNMERGED = 80000, 10
@@ -32,17 +29,7 @@ def together(asked: Asked, name: str, lines: list[str]) -> Run:
     """Return a run of four processes at once, each with every fourth query."""
     setup = asked.setup
     files = (setup.written(f"{asked.dump.name}-{name}-{first}", lines[first::FOUR]) for first in range(FOUR))
-    words = [setup.words(asked.dump, file) for file in files]
-
-    def run() -> Measured:
-        began = time.perf_counter()
-        with open(NOTHING, "wb") as output:
-            children = [subprocess.Popen(each, stdout=output) for each in words]
-            if any([child.wait() for child in children]):
-                raise Failed("a process of several ended without a report")
-        return Measured(time.perf_counter() - began, 0, 0, Outcome(0, b"", b""))
-
-    return run
+    return at_once([setup.words(asked.dump, file) for file in files])
 
 
 def rows(name: str, asked: Asked, lines: list[str]) -> Iterator[Row]:
