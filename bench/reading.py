@@ -2,6 +2,7 @@
 from __future__ import annotations
 
 from collections.abc import Iterator
+from functools import partial
 from typing import NamedTuple
 
 from bench.histories import FAULTY_BLOCK, LARGE_TEXTS, ORDINARY, RELEASES, Mix, generated
@@ -25,6 +26,10 @@ READ = {
 }
 
 
+def is_met(most: float, seconds: dict[str, float]) -> bool:
+    return seconds[""] <= most * seconds["beside"]
+
+
 def rows(setup: Setup) -> Iterator[Row]:
     for name, read in READ.items():
         dump = generated(setup.folder / name, read.mix, setup.scaled(read.revisions), FAULTY_BLOCK)
@@ -33,7 +38,7 @@ def rows(setup: Setup) -> Iterator[Row]:
             "": command(setup.words(PIPE), feeder=cat, status=REFUSED),
             "beside": command(read.beside, feeder=cat, is_kept=True),
         }
-        best = best_in_turns(runs, setup.times)
+        best = best_in_turns(runs, setup.times, is_met=partial(is_met, read.most))
         ours, other = best[""].wall, best["beside"].wall
         cells: list[Cell] = [dump.megabytes, ours, " ".join(read.beside[:2]), other, Limited(ours / other, read.most)]
         yield [name, *cells, best[""].peak / 1e6]

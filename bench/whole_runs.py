@@ -23,6 +23,12 @@ HEADING = (
 )
 
 
+def is_met(seconds: dict[tuple[int, int], float]) -> bool:
+    """Return whether no history takes more than so many times as long as the one before it."""
+    alone = [taken for (_, workers), taken in sorted(seconds.items()) if workers == 1]
+    return all(after <= MOST_TIME * before for before, after in zip(alone, alone[1:]))
+
+
 def rows(setup: Setup, name: str) -> Iterator[Row]:
     """Yield a row for each length of a history, all of which are measured in turns."""
     found: list[Generated] = []
@@ -34,7 +40,7 @@ def rows(setup: Setup, name: str) -> Iterator[Row]:
         for workers in (1, 4):
             runs[size, workers] = Asked(setup, history.dump, workers).run(lines[size], is_kept=True)
         runs[size, 0] = command(["grep", "-c", "^Node-path"], feeder=["cat", history.dump], is_kept=True)
-    seconds = walls(runs, setup.times)
+    seconds = walls(runs, setup.times, is_met)
     before, lower = math.nan, math.nan
     for history in found:
         size = history.revisions

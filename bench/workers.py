@@ -32,6 +32,16 @@ def together(asked: Asked, name: str, lines: list[str]) -> Run:
     return at_once([setup.words(asked.dump, file) for file in files])
 
 
+def of_answers(found: dict[tuple[int, bool], float]) -> dict[int, float]:
+    """Return the seconds of the answers alone, by the number of workers, which is 0 for four processes."""
+    return {workers: found[workers, True] - found[workers, False] for workers in (1, 2, FOUR, 0)}
+
+
+def is_met(found: dict[tuple[int, bool], float]) -> bool:
+    seconds = of_answers(found)
+    return seconds[FOUR] <= MOST_OF_PROCESSES * seconds[0]
+
+
 def rows(name: str, asked: Asked, lines: list[str]) -> Iterator[Row]:
     """Yield a row for each number of workers, and one for four processes."""
     report = asked.report(lines)
@@ -41,8 +51,7 @@ def rows(name: str, asked: Asked, lines: list[str]) -> Iterator[Row]:
         each = Asked(asked.setup, asked.dump, workers)
         runs[workers, True], runs[workers, False] = each.run(lines), each.run(none)
     runs[0, True], runs[0, False] = together(asked, "all", lines), together(asked, "none", none)
-    found = walls(runs, asked.setup.times)
-    seconds = {workers: found[workers, True] - found[workers, False] for workers in (1, 2, FOUR, 0)}
+    seconds = of_answers(walls(runs, asked.setup.times, is_met))
     size = len(report) / 1e6
     for workers, taken in seconds.items():
         limit = Limited(taken / seconds[0], MOST_OF_PROCESSES) if workers == FOUR else None
