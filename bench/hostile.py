@@ -22,7 +22,7 @@ from bench.measure import ATTEMPTS, NOTHING, PIECE, REFUSED, Setup
 from bench.tables import Cell, Limited, Row, Table, Tables
 from dev.running import Failed, Limits, Measured, Words, started
 
-# What a run may take, also one of a dump that claims a length, and the seconds from which on it is not repeated.
+# What a run may take, also one of a dump that claims a length. One of so many seconds is repeated at need alone.
 LIMITS, CLAIMED = Limits(120, 12 << 30), Limits(120, 1 << 30)
 LONG = 2
 # The square would take four times as much of either for twice the input.
@@ -118,10 +118,6 @@ class Input:
         """Run the program once, after these words."""
         return started([*before, *self.words], report=report, limits=self.shape.limits)
 
-    def run_again(self) -> None:
-        if self.runs[0].wall < LONG:
-            self.runs.append(self.run())
-
     def check(self, taken: Measured) -> None:
         outcome = taken.outcome
         if self.shape.refusal is None:
@@ -147,9 +143,10 @@ def pair(setup: Setup, shape: Shape) -> tuple[Input, Input]:
     """Return the measured inputs of a shape, in its size and in twice that."""
     size = setup.scaled(shape.size)
     once, twice = (Input(setup, shape, times * size, f"times-{times}") for times in (1, 2))
-    for _ in range(ATTEMPTS):
-        for each in (once, twice) * setup.times:
-            each.run_again()
+    for attempt in range(ATTEMPTS):
+        # Both are run as often. The best of many beside one of few would show a difference that is none.
+        for each in (once, twice) * (setup.times if attempt or twice.runs[0].wall < LONG else 0):
+            each.runs.append(each.run())
         if twice.wall <= MOST_TIME * once.wall or shape.per_byte is None:
             break
     return once, twice

@@ -13,10 +13,11 @@ import time
 from collections.abc import Iterator
 from contextlib import contextmanager
 from itertools import islice
+from math import inf
 from pathlib import Path
 
 from bench.histories import CONTENTS, revisions
-from bench.measure import Run, Setup, command, walls
+from bench.measure import ATTEMPTS, Run, Setup, command, walls
 from bench.subversion import Repository, load, loaded
 from bench.tables import ABSENT, Cell, Limited, Row, Table, Tables
 from dev.dumps import first_lines
@@ -65,7 +66,7 @@ class Source:
     def __init__(self, setup: Setup, repository: Repository, left: Iterator[bytes], url: str = "") -> None:
         self.setup, self.repository, self.left = setup, repository, left
         self.source, self.url = url or str(repository.folder), url or repository.url
-        self.dumping = "svnrdump" if url else "svnadmin"
+        self.is_served, self.dumping = bool(url), "svnrdump" if url else "svnadmin"
 
     def grow(self, count: int) -> None:
         load(self.repository.folder, [first_lines(), *islice(self.left, count)])
@@ -93,39 +94,42 @@ class Source:
     def dump(self) -> Measured:
         return command([self.dumping, "dump", "-q", self.source])()
 
-    def seconds(self) -> list[float]:
+    def seconds(self, most_of_log: float, most_of_dump: float) -> list[float]:
         """Return what the log, a dump and the first question take."""
         runs: dict[str, Run] = {"log": self.log, "dump": self.dump, "first": self.first}
-        return list(walls(runs, self.setup.times).values())
 
-    def row(self, name: str, seconds: list[float], most_of_dump: float) -> Row:
-        log, dump, first = seconds
-        network: Cell = Limited(bytes_of(self.first) / bytes_of(self.log), MOST_BYTES) if name == "svn://" else None
-        of_log: Cell = Limited(first / log, MOST_OF_LOG) if network is None else first / log
+        def is_met(found: dict[str, float]) -> bool:
+            return found["first"] <= min(most_of_log * found["log"], most_of_dump * found["dump"])
+
+        return list(walls(runs, self.setup.times, is_met).values())
+
+    def row(self, name: str, most_of_log: float, most_of_dump: float) -> Row:
+        log, dump, first = seconds = self.seconds(most_of_log, most_of_dump)
+        network = Limited(bytes_of(self.first) / bytes_of(self.log), MOST_BYTES) if self.is_served else None
+        of_log: Cell = first / log if self.is_served else Limited(first / log, most_of_log)
         peak = Limited(self.peak(), MOST_MEGABYTES)
-        later = walls({"later": self.later, "grown": self.grown}, self.setup.times)
+        runs: dict[str, Run] = {"later": self.later, "grown": self.grown}
+        later = walls(runs, self.setup.times, lambda found: found["grown"] - found["later"] <= MOST_MORE)
         more = Limited(later["grown"] - later["later"], MOST_MORE)
-        relative = [of_log, Limited(first / dump, most_of_dump), network]
-        return [name, *seconds, *relative, peak, later["later"], more]
+        return [name, *seconds, of_log, Limited(first / dump, most_of_dump), network, peak, later["later"], more]
 
 
 def measured(setup: Setup) -> Tables:
     """svnask about a repository with contents: its first question, a later one, and one after ten new revisions."""
     count = setup.scaled(REVISIONS)
-    pieces = revisions(CONTENTS, count + 4 * TEN * (setup.times + 1))
+    pieces = revisions(CONTENTS, count + 2 * ATTEMPTS * setup.times * TEN)
     repository = loaded(setup, "contents", islice(pieces, count // 16 + 1))
     if repository is None:
         yield Table("svnask-repository", "source", [[ABSENT]])
         return
     by_folder = Source(setup, repository, pieces)
-    lengths = [(count // 16, by_folder.seconds())]
+    lengths = [(count // 16, by_folder.seconds(inf, inf))]
     for length in (count // 8, count // 4):
         by_folder.grow(length - lengths[-1][0])
-        lengths.append((length, by_folder.seconds()))
+        lengths.append((length, by_folder.seconds(inf, inf)))
     yield Table("svnask-lengths", LENGTHS, [[length, *seconds] for length, seconds in lengths])
     by_folder.grow(count - lengths[-1][0])
-    rows = [by_folder.row("folder", by_folder.seconds(), MOST_OF_DUMP)]
+    rows = [by_folder.row("folder", MOST_OF_LOG, MOST_OF_DUMP)]
     with served(repository.folder) as url:
-        by_network = Source(setup, repository, pieces, url)
-        rows.append(by_network.row("svn://", by_network.seconds(), MOST_OF_SERVED))
+        rows.append(Source(setup, repository, pieces, url).row("svn://", inf, MOST_OF_SERVED))
     yield Table("svnask-repository", HEADING, rows)

@@ -178,10 +178,11 @@ class Case(UtcTest, ProgramTest):
         return [int(rev) for rev in HEAD_OF_ENTRY.findall(self.asked(dump, "log", *words))]
 
     def check_unanswered(self, status: int, said: str, *words: Word) -> Done:
-        """Check that a question has no answer, and what is said in place of one."""
+        """Check that a question has no answer, and what is said in place of one. A whole message comes before all else."""
         done = called(*words)
         self.assertEqual((done.status, done.output), (status, b""), (words, done.said))
-        self.assertIn(said, done.said, words)
+        is_said = done.said.startswith(said) if said.startswith("svnask: ") else said in done.said
+        self.assertTrue(is_said, (words, done.said))
         return done
 
     def script(self, name: str, *lines: str) -> str:

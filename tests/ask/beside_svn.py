@@ -161,9 +161,13 @@ def path_in(chance: random.Random, place: Place) -> tuple[str, int]:
 
 
 def bounds(chance: random.Random, place: Place) -> str:
-    """Return a range of revisions. The last one may have a name."""
-    first, last = ("HEAD" if chance.random() < 0.05 else str(chance.randint(0, place.head)) for _ in range(2))
-    return f"{first}:{last}"
+    """Return a revision or a range of revisions. They may have names, or be those of a date where all have one."""
+    named = ["HEAD"] if place.growing is None else ["HEAD", "{2024-01-01T00:06:30Z}"]
+    first, last = (
+        chance.choice(named) if chance.random() < 0.05 * len(named) else str(chance.randint(0, place.head))
+        for _ in range(2)
+    )
+    return first if chance.random() < 0.1 else f"{first}:{last}"
 
 
 def ranges(chance: random.Random, place: Place) -> list[str]:
