@@ -7,21 +7,21 @@ each of them some times, of which the best counts; the replies must be the same.
 from __future__ import annotations
 
 import itertools
-import math
 import os
 import statistics
 import subprocess
 import time
 from collections.abc import Iterator, Sequence
 from contextlib import contextmanager
+from functools import partial
 from pathlib import Path
 from random import Random
 
 from bench.histories import CHANGES, Peg, revisions, write
-from bench.measure import Setup
+from bench.measure import Setup, walls
 from bench.questions import drawn
 from bench.tables import Limited, Row, Table, Tables
-from dev.running import Failed, Words
+from dev.running import Failed, Measured, Outcome, Words
 
 # The revisions before the first piece, the pieces, and the revisions of each.
 REVISIONS, PIECES, TEN = 120000, 10000, 10
@@ -80,15 +80,30 @@ def grown(talk: Talk, first: int, pieces: Iterator[bytes]) -> list[float]:
     return found
 
 
+def medians(found: dict[tuple[int, bytes], float]) -> list[float]:
+    """Return the median of the milliseconds of a question in each of two talks."""
+    return [1e3 * statistics.median(seconds for (talk, _), seconds in found.items() if talk == each) for each in (0, 1)]
+
+
+def is_met(found: dict[tuple[int, bytes], float]) -> bool:
+    after, at_once = medians(found)
+    return after <= MOST_OF_AT_ONCE * at_once
+
+
 def asked(talks: Sequence[Talk], lines: Sequence[bytes], times: int) -> list[float]:
-    """Return the median of the milliseconds of a question in each talk."""
-    best = [[math.inf] * len(talks) for _ in lines]
-    for place, line in list(enumerate(lines)) * times:
-        found = [talk.turn(line) for talk in talks]
-        if len({reply for _, reply in found}) > 1 or b" ok\n" not in found[0][1]:
+    """Return the medians of two talks, in which each question must have the same answer."""
+    answers: dict[bytes, bytes] = {}
+
+    def ask(talk: Talk, line: bytes) -> Measured:
+        milliseconds, reply = talk.turn(line)
+        # The number of the query stands before it.
+        answer = reply.partition(b" ")[2]
+        if not answer.startswith(b"ok\n") or answers.setdefault(line, answer) != answer:
             raise Failed(f"the replies to {line!r} differ, or are no answers")
-        best[place] = [min(pair) for pair in zip(best[place], (milliseconds for milliseconds, _ in found))]
-    return [statistics.median(each) for each in zip(*best)]
+        return Measured(milliseconds / 1e3, 0, 0, Outcome(0, b"", b""))
+
+    runs = {(number, line): partial(ask, talk, line) for line in lines for number, talk in enumerate(talks)}
+    return medians(walls(runs, times, is_met))
 
 
 def rows(setup: Setup) -> Iterator[Row]:
