@@ -127,12 +127,12 @@ class Asked:
         view = self.history.view()
 
         def made() -> KeptAnswer:
-            with view:
-                asked = Asked(self._given, self._answers, view)
-                try:
+            try:
+                with view:
+                    asked = Asked(self._given, self._answers, view)
                     return KeptAnswer(make(asked), asked.notes, None, view.index)
-                except Exception as error:  # pylint: disable=broad-exception-caught
-                    return KeptAnswer(None, [], error, view.index)
+            except Exception as error:  # pylint: disable=broad-exception-caught
+                return KeptAnswer(None, [], error, view.index)
 
         return made
 
