@@ -16,7 +16,7 @@ from http.client import HTTPConnection
 from pathlib import Path
 
 from bench.histories import branchy, write
-from bench.measure import Setup
+from bench.measure import LOOP, PROCESSORS, Setup, loop, slowness, walls
 from bench.own_peak import in_no_file
 from bench.tables import Limited, Row, Table, Tables
 
@@ -111,20 +111,21 @@ def measured(setup: Setup) -> Tables:
     """The pages of a history with 200 branches: the first answer of each, a later one, many at once, and memory."""
     count = setup.scaled(REVISIONS)
     dump = write(setup.folder / "pages", branchy(count))
+    slower = slowness(walls({LOOP: loop(PROCESSORS)}, setup.times)[LOOP])
     with served(setup, dump) as server:
         begun = server.megabytes()
         rows: list[Row] = []
         for each in (OVERVIEW, *PAGES):
             address = each.format(count // 2)
-            first = Limited(server.seconds(address), FIRST if each == OVERVIEW else FIRST_OF_OTHERS)
+            first = Limited(server.seconds(address), slower * (FIRST if each == OVERVIEW else FIRST_OF_OTHERS))
             until = complete(server, address)
-            rows.append([f"`{each.format('N')}`", first, until, Limited(server.seconds(address), LATER)])
+            rows.append([f"`{each.format('N')}`", first, until, Limited(server.seconds(address), slower * LATER)])
         memory = server.most - begun
         milliseconds, longest = many(server, WHERE.format(count // 2))
     yield Table("svnask-web", "address | first, s:.3f | complete, s:.2f | later, s:.3f", rows)
     of_many: list[Row] = [
-        ["`/api/where`, asked by four clients at once, ms each", Limited(milliseconds, MILLISECONDS)],
-        ["the longest of 20 beside 15 slow ones, s", Limited(longest, MOST_BESIDE)],
+        ["`/api/where`, asked by four clients at once, ms each", Limited(milliseconds, slower * MILLISECONDS)],
+        ["the longest of 20 beside 15 slow ones, s", Limited(longest, slower * MOST_BESIDE)],
         ["memory of the pages beyond the history, MB", Limited(memory, MOST_MEGABYTES)],
     ]
     yield Table("svnask-web-many", "what | measured:.2f", of_many)
