@@ -6,7 +6,7 @@ from pathlib import Path
 
 from dev.dumps import added, copied, deleted, dump_of
 from svnask.engine.queries import Locate
-from svnask.history.lives import Tree, lives_at
+from svnask.history.lives import Tree, life_in, lives_at
 from tests.ask import base
 
 
@@ -21,8 +21,9 @@ class Lives(base.Case):
             for path in paths:
                 lives = list(tree.lives(path, history.head))
                 for rev in range(history.head + 1):
-                    is_there = any(life.first <= rev <= life.last for life in lives)
-                    self.assertEqual(is_there, found[(path, rev)], (name, path, rev))
+                    life = next((life for life in lives if life.has(rev)), None)
+                    self.assertEqual(life is not None, found[(path, rev)], (name, path, rev))
+                    self.assertEqual((tree.life(path, rev, history.head), life_in(lives, rev)), (life, life))
 
     def test_lives_of_a_repository(self) -> None:
         history = self.history(base.dump_of("again"))

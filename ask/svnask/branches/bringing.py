@@ -2,14 +2,19 @@
 from __future__ import annotations
 
 from collections.abc import Iterable, Iterator
+from functools import lru_cache
 from typing import NamedTuple
 
 from svnask.copy.changes import Change
 from svnask.engine.queries import Log, is_askable
+from svnask.history.lives import lives_in
 from svnask.history.open_history import OpenHistory
 from svnask.masks import mask_between, mask_of_revisions, members_of
 from svnask.merges.value_changes import Differences
-from svnask.paths import is_at_or_below, joined, rest_below, tops_above
+from svnask.paths import joined, rest_below, tops_above, tops_of
+
+# Of how many paths the lives are kept.
+MOST_LIVES = 1000
 
 
 class AskedOrigin(NamedTuple):
@@ -45,6 +50,7 @@ class Bringing:
     def __init__(self, history: OpenHistory) -> None:
         self._history = history
         self._differences = Differences(history)
+        self._lives = lru_cache(MOST_LIVES)(lambda path: [*history.tree.lives(path, history.head)])
         self._memo: dict[str, Looked] = history.memo("bringing")
         if not self._memo:
             # One that made and unmade no path and changed no mergeinfo brings something.
@@ -88,34 +94,33 @@ class Bringing:
 
     def _origins(self, rev: int, targets: set[bytes], paths: Iterable[bytes]) -> dict[bytes, list[AskedOrigin]]:
         """Return where each changed path may have come from with what was merged, but for those that surely did."""
-        merged = [(target, *each) for target in sorted(targets) for each in self._merged(rev, target)]
+        merged = {target: list(self._merged(rev, target)) for target in targets}
+        tree = self._history.tree
         found: dict[bytes, list[AskedOrigin]] = {}
         for path in paths:
-            found[path] = []
-            for target, source, lo, hi in merged:
-                if is_at_or_below(path, target):
-                    origin = joined(source, rest_below(path, target))
-                    if self._is_moved(origin, source, lo, hi):
-                        del found[path]
-                        break
-                    if is_askable(origin) and self._history.tree.exists(origin, hi):
-                        found[path].append(AskedOrigin(path, origin, Log(origin, hi, (lo, hi))))
+            origins = [
+                (source, joined(source, rest_below(path, top)), lo, hi)
+                for top in tops_of(path)
+                for source, lo, hi in merged.get(top, ())
+            ]
+            # What was made or deleted in what was merged surely came from there.
+            if not any(tree.is_made(origin, lo, hi, source) for source, origin, lo, hi in origins):
+                found[path] = [
+                    AskedOrigin(path, origin, Log(origin, hi, (lo, hi)))
+                    for _, origin, lo, hi in origins
+                    if is_askable(origin) and tree.exists(origin, hi)
+                ]
         return found
 
     def _merged(self, rev: int, target: bytes) -> Iterator[tuple[bytes, int, int]]:
         """Yield the sources whose revisions were merged into a path, with ranges of these, each in one life."""
-        history, explicit = self._history, self._history.explicit
+        explicit = self._history.explicit
         found = self._differences.of(explicit.given(target, rev - 1), explicit.given(target, rev))
         for path, ranges in found.gained.items() if found is not None else ():
-            for life in history.tree.lives(path, history.head) if is_askable(path) else ():
-                for lo, hi in ranges:
-                    if max(lo, life.first) <= min(hi, life.last):
-                        yield path, max(lo, life.first), min(hi, life.last)
-
-    def _is_moved(self, path: bytes, source: bytes, lo: int, hi: int) -> bool:
-        """Return whether a path was made or deleted by a range of revisions of a source, or one above it was."""
-        events = self._history.tree.events(path)
-        return any(lo <= event.rev <= hi and is_at_or_below(top, source) for top, event in events)
+            lives = self._lives(path) if is_askable(path) else ()
+            for lo, hi in ranges:
+                for life in lives_in(lives, lo, hi):
+                    yield path, max(lo, life.first), min(hi, life.last)
 
     def _is_changed(self, path: bytes, revisions: Iterable[int]) -> bool:
         """Return whether one of some revisions changed a path itself."""

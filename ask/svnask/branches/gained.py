@@ -9,7 +9,7 @@ from typing import NamedTuple
 from svnask.branches.bringing import Bringing
 from svnask.engine.queries import Answers, LocationSegments, Log, Mergeinfo, Segment, is_askable
 from svnask.errors import Denied
-from svnask.history.lives import Life
+from svnask.history.lives import Life, lives_in
 from svnask.history.open_history import OpenHistory, one
 from svnask.history.targets import Target
 from svnask.log import selection as log
@@ -91,11 +91,9 @@ class LifePart(NamedTuple):
     revisions: Range
 
 
-def parts_of(lives: Iterable[Life], lo: int, hi: int) -> Iterator[LifePart]:
+def parts_of(lives: Sequence[Life], lo: int, hi: int) -> Iterator[LifePart]:
     """Yield the parts that the lives of a path have of a range of revisions."""
-    for life in lives:
-        if max(lo, life.first) <= min(hi, life.last):
-            yield LifePart(life, (max(lo, life.first), min(hi, life.last)))
+    return (LifePart(life, (max(lo, life.first), min(hi, life.last))) for life in lives_in(lives, lo, hi))
 
 
 class NamedPart(NamedTuple):

@@ -3,12 +3,13 @@ from __future__ import annotations
 
 import re
 from collections.abc import Iterable
+from operator import attrgetter
 from typing import NamedTuple
 
 from svnask.copy.sections import MERGEINFO
 from svnask.copy.store import BEGIN_OF_RECORD, Node, Record
 from svnask.digits import number
-from svnask.paths import NUL_FOR_SLASH, Place, clean, is_at_or_below, joined, rest_below, tops_of
+from svnask.paths import NUL_FOR_SLASH, Place, clean, joined, moved, tops_of
 
 # How `svn log -v` writes what a record does.
 LETTERS = {b"add": "A", b"change": "M", b"delete": "D", b"replace": "R"}
@@ -110,24 +111,27 @@ def change_of(
     return Change(clean(path), letter, place, of_node, text is not None, properties is not None)
 
 
-def copy_source_of(records: Iterable[Record], path: bytes) -> Place | None:
-    """Return where a path came from with a copy that a revision with these records made of it or of a path above it."""
-    found: Place | None = None
-    for record in records:
-        if record.action in ("add", "replace") and is_at_or_below(path, record.path):
-            found = record.source
-            if found is not None:
-                found = joined(found[0], rest_below(path, record.path)), found[1]
-    return found
+class Made:
+    """The paths that the records of a revision added or replaced."""
+
+    def __init__(self, records: Iterable[Record]) -> None:
+        # Of each path the last record counts.
+        self._records = {record.path: record for record in records if record.action in ("add", "replace")}
+
+    def source_of(self, path: bytes) -> Place | None:
+        """Return where a path came from with a copy that the revision made of it or of a path above it."""
+        found = [self._records[top] for top in tops_of(path) if top in self._records]
+        last = max(found, key=attrgetter("number"), default=None)
+        return None if last is None or last.source is None else moved(path, last.path, last.source)
 
 
-def place_of_change(change: Change, rev: int, records: Iterable[Record]) -> Place:
-    """A place at which a changed path is, given the records of the revision. What was deleted was there before, or came
-    with a copy of a directory above it."""
+def place_of_change(change: Change, rev: int, made: Made) -> Place:
+    """A place at which a changed path is, given what the revision made. What was deleted was there before, or came with a
+    copy of a directory above it."""
     if change.letter != "D":
         return change.path, rev
     top, _, name = change.path.rpartition(b"/")
-    source = copy_source_of(records, top or b"/")
+    source = made.source_of(top or b"/")
     return (joined(source[0], name), source[1]) if source is not None else (change.path, rev - 1)
 
 

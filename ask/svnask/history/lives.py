@@ -8,13 +8,24 @@ from __future__ import annotations
 import bisect
 import fnmatch
 import functools
+import itertools
 from collections.abc import Iterable, Iterator, Sequence
 from typing import NamedTuple
 
 from svnask import projects
 from svnask.copy.store import Record
 from svnask.errors import Failed
-from svnask.paths import Place, components, joined, moved, parent_of, rest_below, tops_above, tops_of
+from svnask.paths import (
+    Place,
+    components,
+    is_at_or_below,
+    joined,
+    moved,
+    parent_of,
+    rest_below,
+    tops_above,
+    tops_of,
+)
 
 # As the last component of a pattern, the branches at any depth.
 ANY_DEPTH = b"**"
@@ -73,11 +84,6 @@ class Tree:
                 if name:
                     self._names.setdefault(top or b"/", set()).add(name)
 
-    def events(self, path: bytes) -> list[tuple[bytes, Event]]:
-        """The events of a path and of those above it, in the order of the dump, with the path of each."""
-        found = [(top, event) for top in tops_of(path) for event in self._events.get(top, ())]
-        return sorted(found, key=lambda each: each[1].number)
-
     def exists(self, path: bytes, rev: int) -> bool:
         """Return whether a path is in the tree of a revision: in its own, or in that which it was copied from, and so
         on."""
@@ -96,6 +102,16 @@ class Tree:
         """Return whether a path is in the tree of a revision, or else the place on which that depends."""
         if path == b"/":
             return True, None
+        newest, place = self._newest(path, rev)
+        if newest is None or newest.action == "delete":
+            return False, None
+        if newest.source is None:
+            return path == place, None
+        # Where a copy is not from an older revision, svnhist refuses the dump.
+        return False, moved(path, place, newest.source) if newest.source[1] < newest.rev else None
+
+    def _newest(self, path: bytes, rev: int) -> tuple[Event | None, bytes]:
+        """Return the last event up to a revision of a path, or of one above it, with the path of the event."""
         newest: Event | None = None
         place = path
         for top in tops_of(path):
@@ -106,12 +122,7 @@ class Tree:
             at = count_up_to(events, rev)
             if at and (newest is None or newest.number < events[at - 1].number):
                 newest, place = events[at - 1], top
-        if newest is None or newest.action == "delete":
-            return False, None
-        if newest.source is None:
-            return path == place, None
-        # Where a copy is not from an older revision, svnhist refuses the dump.
-        return False, moved(path, place, newest.source) if newest.source[1] < newest.rev else None
+        return newest, place
 
     def source(self, path: bytes, rev: int) -> Place | None:
         """Return where the node at a path of a revision was copied from last, if it was."""
@@ -139,14 +150,12 @@ class Tree:
         at = count_up_to(events, rev)
         return path, events[at - 1].rev if at else 0
 
-    def is_made(self, path: bytes, rev: int) -> bool:
-        """Return whether a record of a revision made or unmade a path or one above it."""
-        for top in tops_of(path):
-            events = self._events.get(top, [])
-            at = count_up_to(events, rev)
-            if at and events[at - 1].rev == rev:
-                return True
-        return False
+    def is_made(self, path: bytes, first: int, last: int, highest: bytes = b"/") -> bool:
+        """Return whether a record of some revisions made or unmade a path or one above it, up to the highest one."""
+        return any(
+            count_up_to(events, first - 1) < count_up_to(events, last)
+            for events in (self._events.get(top, ()) for top in tops_of(path) if is_at_or_below(top, highest))
+        )
 
     def after(self, path: bytes, top: bytes, event: Event) -> bool:
         """Return whether a path is there after an event of it or of a path above it."""
@@ -321,6 +330,17 @@ class Tree:
         if life is not None:
             yield life
 
+    def life(self, path: bytes, rev: int, head: int) -> Life | None:
+        """Return the life of a path that has a revision, if it is there then."""
+        if not self.exists(path, rev):
+            return None
+        begun, top = self._newest(path, rev)
+        if begun is None:
+            return Life(path, 0, head, None, True)
+        source = None if begun.source is None else moved(path, top, begun.source)
+        ended = self._next(path, begun, True)
+        return Life(path, begun.rev, head if ended is None else ended[0].rev - 1, source, ended is None)
+
     def _next(self, path: bytes, last: Event, is_there: bool) -> tuple[Event, bytes] | None:
         """Return the first event after one that may make or unmake a path, with the path of the event. Above a path that
         is not there a copy alone can make it, however often a directory was made and deleted."""
@@ -380,6 +400,24 @@ def letters(name: bytes) -> str:
 
 def is_plain(part: bytes) -> bool:
     return not any(letter in part for letter in b"*?[")
+
+
+def lives_in(lives: Sequence[Life], lo: int, hi: int) -> Iterator[Life]:
+    """Yield the lives that have a revision of a range, of some that came one after the other."""
+    low, high = 0, len(lives)
+    while low < high:
+        middle = (low + high) // 2
+        if lives[middle].last < lo:
+            low = middle + 1
+        else:
+            high = middle
+    following = (lives[at] for at in range(low, len(lives)))
+    return itertools.takewhile(lambda life: life.first <= hi, following)
+
+
+def life_in(lives: Sequence[Life], rev: int) -> Life | None:
+    """Return the life that has a revision, of some that came one after the other."""
+    return next(lives_in(lives, rev, rev), None)
 
 
 def lives_at(tree: Tree, paths: Iterable[bytes], head: int) -> list[Life]:

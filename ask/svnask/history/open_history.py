@@ -557,8 +557,7 @@ class OpenHistory:
             if rev in asked and without_kind.search(self._store.blocks_of(rev)):
                 found = [(at, change) for at, change in enumerate(self.changes(rev)) if change.kind is None]
                 has_deleted = any(change.letter == "D" for _, change in found)
-                records = self.records(rev, rev) if has_deleted else ()
-                made = [record for record in records if record.action in ("add", "replace")]
+                made = copied_changes.Made(self.records(rev, rev) if has_deleted else ())
                 lacking += [(rev, at, copied_changes.place_of_change(change, rev, made)) for at, change in found]
         if lacking:
             kinds = self.kinds(place for *_, place in lacking)

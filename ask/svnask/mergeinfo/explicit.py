@@ -6,7 +6,7 @@ from collections.abc import Iterable, Iterator
 
 from svnask.copy.sections import Setting
 from svnask.copy.store import Record
-from svnask.paths import Place, joined
+from svnask.paths import Place, joined, parent_of
 
 NOTHING = Setting(None)
 
@@ -15,7 +15,8 @@ class Explicit:
     """The texts of `svn:mergeinfo` that paths have themselves, revision by revision."""
 
     def __init__(self, records: Iterable[Record]) -> None:
-        self._paths: list[bytes] = []
+        # For each path those directly below it that ever had a text, or that have some below them.
+        self._below: dict[bytes, set[bytes]] = {}
         # For each path that ever had a text, the revisions in which that changed, and what it had from then on.
         self._revs: dict[bytes, list[int]] = {}
         self._settings: dict[bytes, list[Setting]] = {}
@@ -52,23 +53,33 @@ class Explicit:
 
     def _known(self, top: bytes) -> list[bytes]:
         """The paths at or below one that ever had a text."""
-        front = top if top.endswith(b"/") else top + b"/"
-        first, last = bisect.bisect_left(self._paths, front), bisect.bisect_left(self._paths, front[:-1] + b"0")
-        if top == b"/":
-            return list(self._paths)
-        return ([top] if top in self._revs else []) + self._paths[first:last]
+        found, left = [], [top]
+        while left:
+            path = left.pop()
+            found += [path] * (path in self._revs)
+            left += self._below.get(path, ())
+        return sorted(found)
 
     def _put(self, path: bytes, rev: int, setting: Setting) -> None:
         if path not in self._revs:
             if setting == NOTHING:
                 return
-            bisect.insort(self._paths, path)
             self._revs[path], self._settings[path] = [], []
+            self._note(path)
         if self._revs[path] and self._revs[path][-1] == rev:
             self._settings[path][-1] = setting
         else:
             self._revs[path].append(rev)
             self._settings[path].append(setting)
+
+    def _note(self, path: bytes) -> None:
+        """Note a path that has a text in what is above it."""
+        while path != b"/":
+            below = self._below.setdefault(parent_of(path), set())
+            if path in below:
+                return
+            below.add(path)
+            path = parent_of(path)
 
     def apply(self, record: Record) -> None:
         """Take the next record of a dump."""

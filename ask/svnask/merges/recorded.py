@@ -5,14 +5,16 @@ nothing but mergeinfo at and below that path. A copy has it as what it was copie
 """
 from __future__ import annotations
 
+import bisect
 from collections.abc import Iterable
+from functools import lru_cache
 from typing import NamedTuple
 
 from svnask.history.lives import Life
 from svnask.history.open_history import OpenHistory
 from svnask.merges.gains import NONE, candidates
 from svnask.merges.value_changes import Difference, Differences, MalformedValue, PathRanges, Values, difference
-from svnask.paths import Place, is_at_or_below, rest_below, tops_of
+from svnask.paths import NUL_FOR_SLASH, Place, is_at_or_below, rest_below, tops_of
 from svnask.revisions import Revisions
 
 # Of how many places it is kept for later questions whether mergeinfo alone was changed there.
@@ -26,18 +28,27 @@ class MergeinfoAlone:
     def __init__(self, history: OpenHistory) -> None:
         self._history = history
         self._known: dict[Place, bool] = history.memo("mergeinfo alone", MOST_PLACES)
+        # Of one revision, since many lives may be asked about it, one after the other.
+        self._others = lru_cache(1)(self._other_paths)
 
     def is_so(self, life: Life, rev: int) -> bool:
         if life.first >= rev:
             return False
         if (life.path, rev) not in self._known:
-            changed = self._history.explicit.settings.get(rev, set())
-            self._known[life.path, rev] = all(
-                record.action == "change" and not record.has_text and record.path in changed
-                for record in self._history.records(rev, rev)
-                if is_at_or_below(record.path, life.path)
-            )
+            others = self._others(rev)
+            at = bisect.bisect_left(others, NUL_FOR_SLASH(life.path))
+            first = others[at].replace(b"\0", b"/") if at < len(others) else b""
+            self._known[life.path, rev] = not is_at_or_below(first, life.path)
         return self._known[life.path, rev]
+
+    def _other_paths(self, rev: int) -> list[bytes]:
+        """Return the paths to which a revision did something else, as keys in their order."""
+        changed = self._history.explicit.settings.get(rev, set())
+        return sorted(
+            NUL_FOR_SLASH(record.path)
+            for record in self._history.records(rev, rev)
+            if record.action != "change" or record.has_text or record.path not in changed
+        )
 
 
 # For each source path the revisions that were only recorded as merged.
@@ -73,7 +84,8 @@ class Recorded:
         left = [place for place in places if place not in self._known]
         while left:
             path, rev = left.pop()
-            life = next(each for each in self._history.tree.lives(path, self._history.head) if each.has(rev))
+            life = self._history.tree.life(path, rev, self._history.head)
+            assert life is not None
             if life not in needed and life.source is not None and life.source not in self._known:
                 left.append(life.source)
             needed.setdefault(life, set()).add(rev)

@@ -19,14 +19,29 @@ class Piece(NamedTuple):
     segments: Sequence[Segment]
     revisions: list[int]
 
-    def has(self, rev: int) -> bool:
-        return self.segments[0].lo <= rev <= self.segments[0].hi
-
     def between(self, low: int, high: int) -> list[int]:
         """The revisions of a range, rising. Others of the list are of other segments."""
         low, high = max(low, self.segments[0].lo), min(high, self.segments[0].hi)
         first = bisect.bisect_left(self.revisions, low)
         return self.revisions[first : bisect.bisect_right(self.revisions, high, first)]
+
+
+class Pieces:
+    """The pieces of one path. Of those that begin with the same revision a later one has more."""
+
+    def __init__(self) -> None:
+        self._begins: list[int] = []
+        self._pieces: list[Piece] = []
+
+    def add(self, piece: Piece) -> None:
+        at = bisect.bisect_right(self._begins, piece.segments[0].lo)
+        self._begins.insert(at, piece.segments[0].lo)
+        self._pieces.insert(at, piece)
+
+    def at(self, rev: int) -> Piece | None:
+        """Return a piece that has a revision."""
+        at = bisect.bisect_right(self._begins, rev)
+        return self._pieces[at - 1] if at and rev <= self._pieces[at - 1].segments[0].hi else None
 
 
 class Cut(NamedTuple):
@@ -54,7 +69,11 @@ class Cut(NamedTuple):
         first revision of a segment is listed."""
         if self.least:
             return self.segments[0].path
-        return next((segment.path for segment in self.segments if segment.lo < rev), self.segments[-1].path)
+        low, high = 0, len(self.segments) - 1
+        while low < high:
+            middle = (low + high) // 2
+            low, high = (low, middle) if self.segments[middle].lo < rev else (middle + 1, high)
+        return self.segments[low].path
 
 
 class Traces:
@@ -64,7 +83,7 @@ class Traces:
         self._history = history
         self._tree = tree
         self._stops_on_copy = stops_on_copy
-        self._known: dict[bytes, list[Piece]] = {}
+        self._known: dict[bytes, Pieces] = {}
 
     def add(self, walk: Walk) -> None:
         segments = there(walk.found.segments)
@@ -74,10 +93,10 @@ class Traces:
     def _add(self, piece: Piece) -> None:
         path, rev = piece.segments[0].path or b"", piece.segments[0].hi
         if self._piece(path, rev) is None:
-            self._known.setdefault(path, []).append(piece)
+            self._known.setdefault(path, Pieces()).add(piece)
 
     def _piece(self, path: bytes, rev: int) -> Piece | None:
-        return next((piece for piece in self._known.get(path, ()) if piece.has(rev)), None)
+        return self._known[path].at(rev) if path in self._known else None
 
     def exists(self, path: bytes, rev: int) -> bool:
         return self._piece(path, rev) is not None or self._tree.exists(path, rev)
@@ -86,7 +105,7 @@ class Traces:
         """Ask about those of some places that are not known, all at once."""
         asked: dict[bytes, list[Life]] = {}
         for path, rev in places:
-            if self._piece(path, rev) is None and not any(has_place(life, rev) for life in asked.get(path, ())):
+            if self._piece(path, rev) is None and not any(life.has(rev) for life in asked.get(path, ())):
                 life = self._life(path, rev)
                 if life is not None:
                     asked.setdefault(path, []).append(life)
@@ -96,9 +115,7 @@ class Traces:
     def _life(self, path: bytes, rev: int) -> Life | None:
         """The life of a path that has a revision, if svnhist can be asked about it."""
         head = self._history.head
-        if rev > head or not is_askable(path) or not self._tree.exists(path, rev):
-            return None
-        return next(life for life in self._tree.lives(path, head) if has_place(life, rev))
+        return self._tree.life(path, rev, head) if rev <= head and is_askable(path) else None
 
     def _ask(self, places: Sequence[Place]) -> None:
         """Ask about some places, and through these about older ones of which svnhist can't be asked."""
@@ -132,10 +149,6 @@ class Traces:
             return None
         least = copied_in(self._history, piece.segments[0], rev) if self._stops_on_copy else 0
         return Cut(self, rev, piece.segments, least)
-
-
-def has_place(life: Life, rev: int) -> bool:
-    return life.first <= rev <= life.last
 
 
 def there(segments: Iterable[Segment]) -> list[Segment]:

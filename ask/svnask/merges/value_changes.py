@@ -7,8 +7,7 @@ import re
 from collections.abc import Container, Iterator, Sequence
 from typing import NamedTuple
 
-from svnask.copy.changes import copy_source_of
-from svnask.copy.store import Record
+from svnask.copy.changes import Made
 from svnask.history.open_history import OpenHistory
 from svnask.mergeinfo.explicit import Explicit
 from svnask.mergeinfo.values import Run, line_of, lines_of, source_path
@@ -308,7 +307,7 @@ class MergeinfoChanges:
         self._traces = traces
         self._values = Values()
         self._known: dict[int, dict[bytes, Difference]] = {}
-        self._copies: dict[int, list[Record]] = {}
+        self._made: dict[int, Made] = {}
 
     @property
     def revisions(self) -> Container[int]:
@@ -331,7 +330,7 @@ class MergeinfoChanges:
     def _may_change(self, path: bytes, rev: int) -> bool:
         """Return whether a revision gave mergeinfo to a path below or above one or to itself, or made one of these."""
         near = (is_at_or_below(each, path) or is_at_or_below(path, each) for each in self._explicit.settings[rev])
-        return any(near) or self._history.tree.is_made(path, rev)
+        return any(near) or self._history.tree.is_made(path, rev, rev)
 
     def _changed(self, rev: int) -> dict[bytes, Difference]:
         """Return what each changed path gained and lost: none where any of their values is malformed."""
@@ -367,11 +366,10 @@ class MergeinfoChanges:
 
     def _base(self, path: bytes, rev: int) -> Place:
         """Return where a path was before a revision, or what it was copied from in it."""
-        if rev not in self._copies:
+        if rev not in self._made:
             is_new = any(change.letter in ("A", "R") for change in self._history.changes(rev))
-            records = self._history.records(rev, rev) if is_new else ()
-            self._copies[rev] = [record for record in records if record.action in ("add", "replace")]
-        return copy_source_of(self._copies[rev], path) or (path, rev - 1)
+            self._made[rev] = Made(self._history.records(rev, rev) if is_new else ())
+        return self._made[rev].source_of(path) or (path, rev - 1)
 
     def _add_inherited(self, found: Difference, path: bytes, rev: int) -> None:
         """Add what a path gained and lost of what it inherits, where that is not as it was."""
