@@ -2,6 +2,7 @@
 from __future__ import annotations
 
 from collections.abc import Iterator, Sequence
+from pathlib import Path
 from typing import NamedTuple, Optional
 from unittest import mock
 
@@ -13,12 +14,14 @@ from svnask.engine.queries import Answer, LocationSegments, Log, Logged
 from svnask.engine.queries import Merges as Merged
 from svnask.engine.queries import Pair, Query, Segments
 from svnask.history.lives import Life
+from svnask.history.targets import Target
 from svnask.merges import gains as merges
-from svnask.merges import value_changes
+from svnask.merges import show_revs, value_changes
 from svnask.merges.gains import Gain
 from svnask.merges.value_changes import MOST_RANGES, Differences
 from svnask.paths import Place
 from tests.ask import base
+from tests.ask.drawn_repositories import drawn, synchronized
 
 F = b"trunk/f"
 
@@ -194,6 +197,37 @@ class ShowRevs(base.Case):
         )
         done = base.called(self.made("dump", dump), "mergeinfo", "--show-revs", "merged", "trunk", "b")
         self.assertEqual(done.output, b"r3\n")
+
+
+class Unmerged(base.Case):
+    """What is left of branches, of which only what the target was not is asked, is what is eligible of each."""
+
+    def check(self, dump: Path) -> None:
+        history = self.history(dump)
+        history.notice = lambda text: None
+        patterns = [b"/", b"/*", b"/*/*"]
+        alive = [life for life in branches.lives_of(history, patterns) if life.is_alive]
+        for into in alive[:: max(len(alive) // 4, 1)]:
+            target = Target(into.path, history.head)
+            found = {each.left.path: each.left.revisions for each in branches.unmerged(history, patterns, target)}
+            self.assertEqual(found, dict(self.eligible(history, alive, target)))
+
+    def eligible(self, history: History, alive: list[Life], target: Target) -> Iterator[tuple[bytes, object]]:
+        question = show_revs.Question("eligible")
+        for source in (Target(life.path, history.head) for life in alive if life.path != target.path):
+            answers = history.answers(show_revs.queries_of_question(history.explicit, source, target, question))
+            shown = show_revs.ShownMerges(history, history.explicit, answers).shown(source, target, question)
+            yield source.path, [*shown]
+
+    def test_the_recorded_repositories(self) -> None:
+        for name in base.names():
+            self.check(base.dump_of(name))
+
+    def test_drawn_histories(self) -> None:
+        self.drawn(60, drawn, self.check)
+
+    def test_synchronized_features(self) -> None:
+        self.drawn(4, synchronized, self.check)
 
 
 class Operative(base.Case):

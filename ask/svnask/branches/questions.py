@@ -6,7 +6,7 @@ from collections.abc import Iterable, Iterator, Sequence
 from typing import NamedTuple
 
 from svnask import projects
-from svnask.engine.queries import Answer, Answers, LocationSegments, Log, Logged, Mergeinfo, Query
+from svnask.engine.queries import Answer, Answers, LocationSegments, Log, Logged, Mergeinfo, Query, Segment
 from svnask.errors import Denied
 from svnask.history.lives import Life, chains_of, is_plain, lives_at, moves_of, unmatched
 from svnask.history.open_history import OpenHistory
@@ -271,14 +271,14 @@ class Compared(NamedTuple):
     left: Left
     source: Target
     target: Target
+    question: mergeinfo.Question
     answers: Answers
 
     @property
     def trace(self) -> log.Trace:
-        """Return where the branch was."""
-        return log.Trace(
-            self.answers[LocationSegments(*self.source)].segments, self.answers[Log(*self.source)].revisions
-        )
+        """Return where the branch was, with the revisions that may be left."""
+        logged = self.answers[self.question.log(self.source)]
+        return log.Trace(self.answers[LocationSegments(*self.source)].segments, logged.revisions)
 
 
 def unmerged(history: OpenHistory, patterns: Sequence[bytes], into: Target | None) -> Iterator[Compared]:
@@ -287,16 +287,50 @@ def unmerged(history: OpenHistory, patterns: Sequence[bytes], into: Target | Non
     explicit = history.explicit
     alive = alive_in(history, lives_of(history, patterns, (projects.BRANCH,)))
     targets = targets_of(history, alive, into)
-    sources = {Target(life.path, history.head): targets[life] for life in alive if life in targets}
     question = mergeinfo.Question("eligible")
-    about = (mergeinfo.queries_about(explicit, target, question) for target in set(sources.values()))
-    merges = mergeinfo.ShownMerges(history, explicit, history.answers(itertools.chain.from_iterable(about)))
-    asked = {source: mergeinfo.queries_of_pair(source, target, question) for source, target in sources.items()}
-    replies = history.ask(itertools.chain.from_iterable(asked.values()))
-    for source, target in sources.items():
-        answers = Answers(zip(asked[source], replies))
-        revisions = [*merges.shown(source, target, question, answers)]
-        yield Compared(Left(source.path, revisions), source, target, answers)
+    about = (mergeinfo.queries_about(explicit, target, question) for target in set(targets.values()))
+    found = history.answers(itertools.chain.from_iterable(about))
+    merges = mergeinfo.ShownMerges(history, explicit, found)
+    begins = {target: Begins(history, found[LocationSegments(*target)].segments) for target in set(targets.values())}
+    asked = [
+        (Target(life.path, history.head), target, question._replace(since=begins[target].of(life)))
+        for life, target in targets.items()
+    ]
+    queries = [mergeinfo.queries_of_pair(*each) for each in asked]
+    replies = history.ask(itertools.chain.from_iterable(queries))
+    for of_pair, (source, target, own) in zip(queries, asked):
+        answers = Answers(zip(of_pair, replies))
+        revisions = [*merges.shown(source, target, own, answers)]
+        yield Compared(Left(source.path, revisions), source, target, own, answers)
+
+
+class Begins:
+    """Tells from which revision on branches were not a target, which was at these places."""
+
+    def __init__(self, history: OpenHistory, segments: Sequence[Segment]) -> None:
+        self._history, self._segments = history, segments
+        self._known: dict[Life, int] = {}
+
+    def of(self, life: Life) -> int:
+        """Return the first revision of a branch, or of the oldest one that it comes from and the target does not."""
+        passed = [life]
+        while passed[-1] not in self._known:
+            before = self._before(passed[-1])
+            if before is None:
+                self._known[passed[-1]] = passed[-1].first
+            else:
+                passed.append(before)
+        self._known.update((each, self._known[passed[-1]]) for each in passed)
+        return self._known[life]
+
+    def _before(self, life: Life) -> Life | None:
+        """Return what a life was copied from, if that was not the target."""
+        if life.source is None:
+            return None
+        path, rev = life.source
+        segment = next((each for each in self._segments if each.lo <= rev), None)
+        is_target = segment is not None and segment.path == path and rev <= segment.hi
+        return None if is_target else self._history.tree.life(path, rev, self._history.head)
 
 
 def recorded_of(history: OpenHistory, compared: Iterable[Compared]) -> Iterator[tuple[Left, list[int]]]:

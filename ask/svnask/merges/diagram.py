@@ -66,13 +66,17 @@ class BranchPair:
 
     def ancestor(self) -> Target | None:
         """The youngest place at which both were."""
-        found = [
-            Target(path, min(high, other_high))
-            for low, high, path in self._places[self.source]
-            for other_low, other_high, other in self._places[self.target]
-            if path == other and max(low, other_low) <= min(high, other_high)
-        ]
+        these, those = (self._ranges(each) for each in (self.source, self.target))
+        shared = ((path, mergeinfo.last_shared(these[path], those[path])) for path in these.keys() & those.keys())
+        found = [Target(path, rev) for path, rev in shared if rev is not None]
         return max(found, key=lambda place: place.rev) if found else None
+
+    def _ranges(self, branch: Target) -> dict[bytes, list[range]]:
+        """Return the revisions in which a branch was at each path."""
+        found: dict[bytes, list[range]] = {}
+        for low, high, path in self._places[branch]:
+            found.setdefault(path, []).append(range(low, high + 1))
+        return found
 
     def last_merges(self, ancestor: Target) -> tuple[Target, Target]:
         """The youngest place of each branch up to which all was merged to the other, or the ancestor."""

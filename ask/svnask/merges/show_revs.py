@@ -22,7 +22,7 @@ from svnask.mergeinfo.explicit import Explicit
 from svnask.mergeinfo.values import Run, Value, runs_of, value_of
 from svnask.merges.gains import NONE
 from svnask.paths import is_at_or_below, joined, rest_below, tops_of
-from svnask.revisions import Revisions
+from svnask.revisions import Revisions, in_range
 
 # For each path the revisions in which a history was there, and those of them that its log lists.
 Located = dict[bytes, list[range]]
@@ -67,6 +67,19 @@ class Question(NamedTuple):
     verb: str
     is_recursive: bool = False
     range: tuple[int, int] | None = None
+    # For `eligible` the revision before which the source was the target, if that is known.
+    since: int | None = None
+
+    def log(self, source: Target) -> Log:
+        """Return the query for the operative revisions of a source that may be listed."""
+        return Log(*source, self._asked(source))
+
+    def pair(self, source: Target, verb: str, target: Target) -> Pair:
+        """Return the query for what svnhist says of these revisions."""
+        return Pair(*source, verb, *target, self._asked(source))
+
+    def _asked(self, source: Target) -> tuple[int, int] | None:
+        return None if self.since is None else (self.since, source.rev)
 
 
 def revisions_of_runs(runs: Iterable[Run], most: int, inheritable: bool) -> Revisions:
@@ -139,9 +152,11 @@ def common_revisions(lines: Mapping[bytes, Revisions], source: Listed) -> set[in
 
 def shared(own: Located, source: Listed) -> Listed:
     """The revisions in which the target was at the place of the source."""
-    return {
-        path: set().union(*map(source[path].intersection, ranges)) for path, ranges in own.items() if path in source
-    }
+    found: Listed = {}
+    for path in own.keys() & source.keys():
+        rising = sorted(source[path])
+        found[path] = {rev for each in own[path] for rev in in_range(rising, each.start, each.stop - 1)}
+    return found
 
 
 class Sorted(NamedTuple):
@@ -163,16 +178,21 @@ def sort_out(catalog: Catalog, source: Listed) -> Sorted:
     return Sorted(whole - lacking, partial | lacking)
 
 
-def last_shared(these: list[range], those: list[range]) -> int:
-    """The last revision that both have, or 0."""
-    pairs = [(max(one.start, other.start), min(one.stop, other.stop)) for one in these for other in those]
-    return max((stop - 1 for start, stop in pairs if start < stop), default=0)
+def last_shared(these: list[range], those: list[range]) -> int | None:
+    """The last revision that both have, if there is one. The ranges of each fall, and have nothing in common."""
+    left = [these[::-1], those[::-1]]
+    while all(left):
+        one, other = (each[-1] for each in left)
+        if max(one.start, other.start) < min(one.stop, other.stop):
+            return min(one.stop, other.stop) - 1
+        left[one.start < other.start].pop()
+    return None
 
 
 def add_own_history(catalog: Catalog, own: Located, there: Located, source: Listed) -> None:
     """Count as merged the part of the source that the target was itself."""
     both = shared(own, source)
-    last = {path: last_shared(ranges, there[path]) for path, ranges in own.items() if path in there}
+    last = {path: last_shared(ranges, there[path]) or 0 for path, ranges in own.items() if path in there}
     for path, lines in catalog.entries.items():
         rest = rest_below(path, catalog.target.path)
         below_it = {joined(place, rest): rev for place, rev in last.items()}
@@ -235,8 +255,8 @@ def queries_about(explicit: Explicit, target: Target, question: Question) -> lis
 
 def queries_of_pair(source: Target, target: Target, question: Question) -> list[Query[Answer]]:
     """Return what is asked of svnhist for a question besides."""
-    pairs = [] if question.is_recursive else [Pair(*source, verb, *target) for verb in ("merged", "eligible")]
-    return [LocationSegments(*source), Log(*source), *pairs]
+    verbs = () if question.is_recursive else ("merged", "eligible")
+    return [LocationSegments(*source), question.log(source), *(question.pair(source, verb, target) for verb in verbs)]
 
 
 def queries_of_question(explicit: Explicit, source: Target, target: Target, question: Question) -> list[Query[Answer]]:
@@ -251,8 +271,8 @@ def as_answered(
     which source and target were one path."""
     if question.is_recursive:
         return found
-    merged, eligible = answers[Pair(*source, "merged", *target)], answers[Pair(*source, "eligible", *target)]
-    logged = answers[Log(*source)]
+    merged, eligible = (answers[question.pair(source, verb, target)] for verb in ("merged", "eligible"))
+    logged = answers[question.log(source)]
     if not merged.ok or not eligible.ok:
         return found
     operative = set(logged.revisions)
@@ -292,7 +312,7 @@ class ShownMerges:
         bounds = bounds_of(source, question)
         segments = segments_of(history, answers, source)
         there = located(segments, bounds)
-        trace = log.Trace(segments, answers[Log(*source)].revisions)
+        trace = log.Trace(segments, answers[question.log(source)].revisions)
         listed = listed_in(there, log.listed(history, trace))
         if not is_merged:
             add_own_history(catalog, own, there, listed)
