@@ -20,7 +20,7 @@ from svnask.errors import Failed, Usage
 from svnask.export.others import Chain, Examined, Others
 from svnask.export.schema import DERIVED, INDEX, MADE, TABLES
 from svnask.files import replaced
-from svnask.history.lives import Life
+from svnask.history.lives import Life, life_in
 from svnask.history.open_history import OpenHistory
 from svnask.log.processes import count_of_processes, made
 from svnask.picture.graph import Graph, graph_of
@@ -190,12 +190,13 @@ class Branches:
                 goes_on = before is not None and life.source == (before.path, before.last)
                 self._begins[life] = self._begins[before] if before is not None and goes_on else place
                 self._places[life] = len(self._places), lane, place
-                self._by_path.setdefault(life.path, []).append(life)
+        for life in sorted(self._places, key=lambda life: life.first):
+            self._by_path.setdefault(life.path, []).append(life)
 
     def _origin(self, life: Life) -> Life | None:
         """Return what a life was copied from as a whole."""
         path, rev = life.source or (b"", 0)
-        return next((each for each in self._by_path.get(path, ()) if each.first <= rev <= each.last), None)
+        return life_in(self._by_path.get(path, ()), rev)
 
     def branches(self) -> Rows:
         for life, (number, lane, place) in self._places.items():
@@ -262,8 +263,7 @@ class Branches:
 
     def _number(self, lane: int, rev: int) -> int:
         """Return the life of a lane that has a revision, or else the last one."""
-        lives = self._graph.lanes[lane].lives
-        return self._places[next((life for life in lives if life.first <= rev <= life.last), lives[-1])][0]
+        return self._places[self._graph.lanes[lane].life(rev)][0]
 
     def merge_ranges(self) -> Rows:
         """Yield the merged revisions as ranges, in which no other revision of the merged branch is."""

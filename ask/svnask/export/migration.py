@@ -1,8 +1,9 @@
 """What a migration to git has to know of a history."""
 from __future__ import annotations
 
+import bisect
 import re
-from collections.abc import Iterable, Iterator
+from collections.abc import Iterable, Iterator, Sequence
 from typing import NamedTuple
 
 from svnask.branches.questions import Touched, touched
@@ -10,7 +11,7 @@ from svnask.export.contents import Outside, empty_directories, outside_of
 from svnask.history.lives import Life
 from svnask.history.open_history import OpenHistory
 from svnask.paths import components
-from svnask.picture.graph import Graph, LaneMerge, graph_of
+from svnask.picture.graph import Graph, Lane, LaneMerge, graph_of
 from svnask.projects import BRANCH, KINDS, TAG, TRUNK, is_named, kind_of, trunk_of
 from svnask.revisions import in_range
 
@@ -193,35 +194,47 @@ def several_in(graph: Graph) -> Iterator[Several]:
 
 def shown_merges(graph: Graph) -> Iterator[ShownMerge]:
     """Yield the merges, but for what another branch carried along, and how git can show them."""
-    merged: dict[tuple[int, int], set[int]] = {}
+    copied_from = {copy.lane: copy.source for copy in graph.copies}
+    tallies: dict[tuple[int, int], Brought] = {}
     for merge in graph.merges:
-        had = merged.setdefault((merge.source, merge.target), set())
-        had.update(merge.revisions)
+        source, target = graph.lanes[merge.source], graph.lanes[merge.target]
+        if (merge.source, merge.target) not in tallies:
+            begin = history_begin(source, target, copied_from.get(merge.target) == merge.source)
+            tallies[merge.source, merge.target] = Brought(source.revisions, begin)
+        brought = tallies[merge.source, merge.target]
+        brought.add(merge.revisions)
         if not merge.is_carried:
-            of, into = (
-                life_at(graph, *each).path for each in ((merge.source, merge.revisions[-1]), (merge.target, merge.rev))
-            )
-            yield ShownMerge(merge.rev, merge.of or of, merge.into or into, how_in_git(graph, merge, had))
+            of, into = merge.of or source.life(merge.revisions[-1]).path, merge.into or target.life(merge.rev).path
+            yield ShownMerge(merge.rev, of, into, how_in_git(merge, brought.is_whole))
 
 
-def life_at(graph: Graph, lane: int, rev: int) -> Life:
-    lives = graph.lanes[lane].lives
-    return next((life for life in lives if life.has(rev)), lives[-1])
+class Brought:
+    """The revisions of a branch after one that were merged into another branch so far."""
+
+    def __init__(self, revisions: Sequence[int], begin: int) -> None:
+        self._revisions, self._begin, self._newest = revisions, begin, begin
+        self._merged: set[int] = set()
+
+    def add(self, merged: Sequence[int]) -> None:
+        self._newest = max(self._newest, merged[-1])
+        self._merged.update(rev for rev in merged if rev > self._begin and in_range(self._revisions, rev, rev))
+
+    @property
+    def is_whole(self) -> bool:
+        """Return whether all of them up to the newest one that was merged were."""
+        first, last = (bisect.bisect_right(self._revisions, rev) for rev in (self._begin, self._newest))
+        return len(self._merged) == last - first
 
 
-def how_in_git(graph: Graph, merge: LaneMerge, had: set[int]) -> str:
+def how_in_git(merge: LaneMerge, is_whole: bool) -> str:
     if merge.is_record_only:
         return RECORDED
     if merge.of or merge.into:
         return PART
-    needed = in_range(graph.lanes[merge.source].revisions, history_begin(graph, merge) + 1, max(had))
-    return WHOLE if had.issuperset(needed) else PICKED
+    return WHOLE if is_whole else PICKED
 
 
-def history_begin(graph: Graph, merge: LaneMerge) -> int:
-    """Return the last revision of the merged branch that the other one has by a copy of it, or the copy of it."""
-    source, target = graph.lanes[merge.source].lives[0], graph.lanes[merge.target].lives[0]
-    copies = {copy.lane: copy for copy in graph.copies}
-    if merge.target in copies and copies[merge.target].source == merge.source and target.source is not None:
-        return target.source[1]
-    return source.first
+def history_begin(source: Lane, target: Lane, is_copy: bool) -> int:
+    """Return the last revision of a merged branch that the other one has by a copy of it, or the copy of it."""
+    copy = target.lives[0].source
+    return copy[1] if is_copy and copy is not None else source.lives[0].first

@@ -6,6 +6,7 @@ was only recorded as merged. What the source of a copy had is not gained by the 
 from __future__ import annotations
 
 from collections.abc import Iterable, Iterator, Sequence
+from itertools import chain
 from typing import NamedTuple
 
 from svnask.engine.queries import (
@@ -101,10 +102,18 @@ class Tally:
         self._text = text
 
     def _lose(self, source: Life, revisions: Revisions, rev: int) -> None:
-        if revisions and source in self._held:
-            parts = [split_lost(each, revisions, rev) for each in self._held[source]]
-            self._held[source] = [left for left, _ in parts if left.revisions]
-            self._lost += [gone for _, gone in parts if gone.revisions]
+        if not revisions or source not in self._held:
+            return
+        first, last = revisions.ranges[0][0], revisions.ranges[-1][1]
+        kept: list[Tallied] = []
+        for each in self._held[source]:
+            if each.revisions[-1] < first or last < each.revisions[0]:
+                kept.append(each)
+            else:
+                left, gone = split_lost(each, revisions, rev)
+                kept += [left] * bool(left.revisions)
+                self._lost += [gone] * bool(gone.revisions)
+        self._held[source] = kept
 
     def all(self) -> list[Tallied]:
         return self._lost + [each for all_of in self._held.values() for each in all_of]
@@ -163,16 +172,19 @@ def gains_of(operative: dict[Life, list[int]], asked: Iterable[LifeQuery], answe
 
 def joined_gains(held: dict[Life, list[Tallied]]) -> list[Gain]:
     """The revisions that one revision of a target gained of one source, as one gain."""
-    found: dict[tuple[Life, int, Life, int | None, bool], Sequence[int]] = {}
+    found: dict[tuple[Life, int, Life, int | None, bool], list[Sequence[int]]] = {}
     for target, each, is_carried in told_apart(held):
-        key = target, each.gained, each.source, each.lost, is_carried
-        # Most are of one part, whose revisions are not copied.
-        found[key] = sorted([*found[key], *each.revisions]) if key in found else each.revisions
+        found.setdefault((target, each.gained, each.source, each.lost, is_carried), []).append(each.revisions)
     gains = [
-        Gain(source, target, rev, revs, lost, is_carried)
-        for (target, rev, source, lost, is_carried), revs in found.items()
+        Gain(source, target, rev, joined_revisions(parts), lost, is_carried)
+        for (target, rev, source, lost, is_carried), parts in found.items()
     ]
     return sorted(gains, key=lambda gain: (gain.rev, gain.target, gain.revisions[-1], gain.source))
+
+
+def joined_revisions(parts: Sequence[Sequence[int]]) -> Sequence[int]:
+    """Return the revisions of several parts, rising. Those of a single one, as most are, are not copied."""
+    return parts[0] if len(parts) == 1 else sorted(chain.from_iterable(parts))
 
 
 def told_apart(held: dict[Life, list[Tallied]]) -> Iterator[tuple[Life, Tallied, bool]]:

@@ -9,13 +9,14 @@ revisions of a part of the time.
 from __future__ import annotations
 
 import bisect
+import itertools
 from collections.abc import Iterable, Iterator, Sequence
 from typing import NamedTuple
 
 from svnask.branches import questions as branches
 from svnask.engine.queries import Answer, LocationSegments, Mergeinfo, Query, is_askable
 from svnask.history import dates
-from svnask.history.lives import Life, as_of
+from svnask.history.lives import Life, as_of, life_in
 from svnask.history.open_history import OpenHistory
 from svnask.mergeinfo.values import value_of
 from svnask.merges import gains as merges
@@ -37,6 +38,10 @@ class Lane(NamedTuple):
     lives: list[Life]
     kind: str
     revisions: list[int]
+
+    def life(self, rev: int) -> Life:
+        """Return the life that has a revision, or else the last one."""
+        return life_in(self.lives, rev) or self.lives[-1]
 
 
 class LaneCopy(NamedTuple):
@@ -223,14 +228,12 @@ class Finder:
 
     def __init__(self, lives: Iterable[Life]) -> None:
         self._by_path: dict[bytes, list[Life]] = {}
-        for life in lives:
+        for life in sorted(lives, key=lambda life: life.first):
             self._by_path.setdefault(life.path, []).append(life)
 
     def at(self, path: bytes, rev: int) -> Life | None:
-        return next(
-            (life for top in tops_of(path) for life in self._by_path.get(top, ()) if life.first <= rev <= life.last),
-            None,
-        )
+        found = (life_in(self._by_path[top], rev) for top in tops_of(path) if top in self._by_path)
+        return next((life for life in found if life is not None), None)
 
     def lane(self, copy: Life, numbers: dict[Life, int]) -> int | None:
         source = None if copy.source is None else self.at(*copy.source)
@@ -305,12 +308,15 @@ class Parts:
         of it."""
         kept = [gain for gain in gains if gain.target not in self._set or gain.rev in self._set[gain.target]]
         said = said_of(kept) if self.wholes else {}
+        named = {path for one, other, _ in said for path in (one, other)}
         carried = self._carried(kept)
         for gain in kept:
             if self.is_none(gain):
                 yield gain
                 continue
-            pairs = [(one, other) for one in tops_of(gain.source.path) for other in tops_of(gain.target.path)][1:]
+            sources, targets = ([*named.intersection(tops_of(each.path))] for each in (gain.source, gain.target))
+            own = gain.source.path, gain.target.path
+            pairs = [pair for pair in itertools.product(sources, targets) if pair != own]
             left = set(gain.revisions).difference(*(said.get((*pair, gain.rev), ()) for pair in pairs))
             along = {rev for rev in left if (self.whole(gain.source), rev) in carried.get((gain.target, gain.rev), ())}
             for revisions, is_carried in ((left - along, gain.is_carried), (along, True)):
@@ -379,17 +385,17 @@ class Merging:
     def merges(self, gains: Iterable[Gain], numbers: dict[Life, int]) -> Iterator[LaneMerge]:
         """The gains of lives that are in lanes, by the numbers of these, joined where lives are in one lane."""
         found: dict[tuple[object, ...], LaneMerge] = {}
+        joined: dict[tuple[object, ...], list[Sequence[int]]] = {}
         for gain in gains:
             source, target = (numbers.get(self._parts.whole(life)) for life in (gain.source, gain.target))
             if source is not None and target is not None:
                 of, into = (life.path if life in self._parts.wholes else None for life in (gain.source, gain.target))
                 state = gain.lost, gain.is_carried, self._alone.is_so(gain.target, gain.rev)
                 key = source, target, gain.rev, *state, of, into
-                # Most merges have one gain, whose revisions are not copied.
-                before = found[key].revisions if key in found else ()
-                revisions = sorted([*before, *gain.revisions]) if before else gain.revisions
-                found[key] = LaneMerge(source, target, gain.rev, revisions, *state, of, into)
-        yield from found.values()
+                joined.setdefault(key, []).append(gain.revisions)
+                found[key] = LaneMerge(source, target, gain.rev, (), *state, of, into)
+        for each, parts in zip(found.values(), joined.values()):
+            yield each._replace(revisions=merges.joined_revisions(parts))
 
 
 def newest(revisions: Sequence[int], rev: int) -> Sequence[int]:

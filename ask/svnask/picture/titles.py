@@ -111,9 +111,4 @@ class Titles:
 
 def name_at(lane: Lane, rev: int) -> str:
     """Return the name of a lane in a revision."""
-    low, high = 0, len(lane.lives)
-    while low < high:
-        middle = (low + high) // 2
-        low, high = (middle + 1, high) if lane.lives[middle].first <= rev else (low, middle)
-    found = lane.lives[max(low - 1, 0)]
-    return name_of_life(found if found.has(rev) else lane.lives[-1])
+    return name_of_life(lane.life(rev))

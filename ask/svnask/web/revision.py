@@ -5,7 +5,6 @@ import bisect
 from collections.abc import Sequence
 from typing import NamedTuple
 
-from svnask.history.lives import Life
 from svnask.picture.graph import Graph, LaneMerge
 from svnask.texts import decoded
 from svnask.web.asked import Asked
@@ -62,17 +61,11 @@ def has_merged(merge: LaneMerge, rev: int) -> bool:
 
 def arrow_of(graph: Graph, merge: LaneMerge) -> Arrow:
     """Return a merge by the paths that its branches had then."""
-    source = merge.of or life_of(graph, merge.source, merge.revisions[-1]).path
-    target = merge.into or life_of(graph, merge.target, merge.rev).path
+    source = merge.of or graph.lanes[merge.source].life(merge.revisions[-1]).path
+    target = merge.into or graph.lanes[merge.target].life(merge.rev).path
     parts = [
         *["only recorded"] * merge.is_record_only,
         *["with another merge"] * merge.is_carried,
         *([] if merge.lost is None else [f"taken back in r{merge.lost}"]),
     ]
     return Arrow(merge.rev, decoded(source), decoded(target), merge.revisions, ", ".join(parts) or "merged")
-
-
-def life_of(graph: Graph, lane: int, rev: int) -> Life:
-    """Return the life of a lane that has a revision, or else its last one."""
-    lives = graph.lanes[lane].lives
-    return next((life for life in lives if life.has(rev)), lives[-1])
