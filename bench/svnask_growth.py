@@ -34,6 +34,10 @@ SHAPES: dict[Callable[[int], bytes], int] = {
     shapes.wide_value: 500000,
     shapes.long_message: 5000000,
     shapes.fragments: 100000,
+    shapes.merged_branches: 1500,
+    shapes.values_below: 1500,
+    shapes.made_anew: 1000,
+    shapes.renamed_files: 4000,
 }
 # What stands for an argument, by its name in the help.
 ARGUMENTS = {"PATH[@PEG]": "trunk", "REV": "2", "FROM[@PEG]": "trunk@1", "TO[@PEG]": "trunk", "K": "3", "B": "100"}

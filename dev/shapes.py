@@ -88,6 +88,44 @@ def merges(count: int) -> bytes:
     return dump_of(*steps)
 
 
+def merged_branches(count: int) -> bytes:
+    """Many branches, each made after a change of the trunk, which is merged into it later."""
+    steps: list[list[Node]] = [[*FOLDERS, A_FILE]]
+    for name in names(count):
+        steps += [[copied(name, b"trunk", len(steps))], [changed(A_FILE.path, text=name)]]
+        steps.append([changed(name, mergeinfo(b"/trunk:%d" % len(steps)))])
+    return dump_of(*steps)
+
+
+def values_below(count: int) -> bytes:
+    """Two merges, which change many files of a branch and give each of them mergeinfo, too."""
+    files = [b"/f%d" % number for number in range(count)]
+    steps: list[list[Node]] = [[*FOLDERS, *(added(b"trunk" + file, FILE) for file in files)]]
+    steps.append([copied(b"branches/b", b"trunk", 1)])
+    for revisions in (b"3", b"3,5"):
+        steps.append([changed(b"trunk" + file, text=revisions) for file in files])
+        values = {file: mergeinfo(b"/trunk%s:%s" % (file, revisions)) for file in (b"", *files)}
+        steps.append([changed(b"branches/b" + file, value, revisions) for file, value in values.items()])
+    return dump_of(*steps)
+
+
+def made_anew(count: int) -> bytes:
+    """A branch that is deleted and made again and again, gets a merge, and is tagged."""
+    steps: list[list[Node]] = [[*FOLDERS, added(b"tags"), A_FILE], [written(2)]]
+    for number in range(count):
+        steps.append([*[deleted(b"branches/b")] * bool(number), copied(b"branches/b", b"trunk", 1)])
+        steps.append([changed(b"branches/b", mergeinfo(b"/trunk:2"))])
+        steps.append([copied(b"tags/t%d" % number, b"branches/b", len(steps))])
+    return dump_of(*steps)
+
+
+def renamed_files(count: int) -> bytes:
+    """One revision that renames many files."""
+    files = [b"trunk/f%d" % number for number in range(count)]
+    moves = [node for file in files for node in (copied(file + b".c", file, 1), deleted(file))]
+    return dump_of([*FOLDERS, *(added(file, FILE) for file in files)], moves)
+
+
 def renames(count: int) -> bytes:
     """One branch that is renamed again and again."""
     steps: list[list[Node]] = [FOLDERS, [copied(b"branches/b0", b"trunk", 1)]]

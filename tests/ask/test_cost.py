@@ -66,6 +66,10 @@ class Shapes(base.Case):
             (shapes.made_again, 1500, "branches"),
             (shapes.copied_into_folders, 3000, "new trunk@1 trunk"),
             (shapes.renewed, 3000, "log -q trunk/last"),
+            (shapes.merged_branches, 1200, "unmerged; migration"),
+            (shapes.values_below, 1500, "new trunk branches/b; graph"),
+            (shapes.made_anew, 700, "contains 2; branches --ahead-behind; log -g branches/b"),
+            (shapes.renamed_files, 2000, "log -v --json"),
             (shapes.headers, 400, "info --no-cache"),
             (
                 shapes.fragments,
