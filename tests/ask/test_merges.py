@@ -188,6 +188,13 @@ class ShowRevs(base.Case):
         self.assertEqual(self.shown("inherited", "eligible", *pair), ["r1", "r2", "r3", "r13"])
         self.assertEqual(self.shown("inherited", "eligible", "-r", "13:12", *pair), [])
 
+    def test_of_two_paths_in_one_bucket_the_older_one_counts(self) -> None:
+        """So `svn` 1.14 prints it each time. With `b/one/c` it is one of its two answers."""
+        for path, wanted in ((b"b/one/a", b"r2\n"), (b"b/one/q", b"r2\n"), (b"b/one/c", b"")):
+            dump = dump_of([added(b"b"), added(b"b/one")], [copied(path, b"b/one", 1)], [added(b"t")])
+            words = "mergeinfo", "--show-revs", "eligible", f"{path.decode()}@2", "t@3"
+            self.assertEqual(self.asked(self.made("dump", dump), *words), wanted)
+
     def test_a_revision_that_is_inheritable_in_one_line_has_no_star(self) -> None:
         dump = dump_of(
             [added(b"trunk"), added(F, FILE)],

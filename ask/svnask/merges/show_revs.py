@@ -24,6 +24,8 @@ from svnask.merges.gains import NONE
 from svnask.paths import is_at_or_below, joined, rest_below, tops_of
 from svnask.revisions import Revisions, in_range
 
+# How many buckets the hash table of `svn` has for fewer paths. A path is in one by the sum of its bytes.
+BUCKETS = 16
 # For each path the revisions in which a history was there, and those of them that its log lists.
 Located = dict[bytes, list[range]]
 Listed = dict[bytes, set[int]]
@@ -205,7 +207,8 @@ class Coverage:
     def __init__(self, history: OpenHistory, catalog: Catalog, source: Iterable[bytes]) -> None:
         self._history = history
         self._catalog = catalog
-        self._tops = set(source)
+        # The paths of the source, each with its place, the oldest one first.
+        self._tops = {path: place for place, path in enumerate(reversed([*source]))}
 
     def is_covered(self, rev: int) -> bool:
         """Return whether a revision changed anything, and all that it changed of the source is merged."""
@@ -219,8 +222,7 @@ class Coverage:
         return (change for top in self._tops for change in self._history.changes_below(rev, top))
 
     def _is_change_covered(self, change: Change, rev: int) -> bool:
-        # Where one path of the source is below another one, the longer one counts.
-        top = next((top for top in tops_of(change.path) if top in self._tops), None)
+        top = self._top_of(change.path)
         if top is None or (change.path == top and change.letter != "M"):
             return True
         place = joined(self._catalog.target.path, rest_below(change.path, top))
@@ -232,6 +234,17 @@ class Coverage:
             return True
         parts = [lines.inheritable] + ([lines.other] if entry == place else [])
         return any(rev in part.get(path, ()) for path in lines.at_or_below(top) for part in parts)
+
+    def _top_of(self, path: bytes) -> bytes | None:
+        """Return the path of the source at or above a changed path. Of several the longest one that `svn` may take."""
+        found = [top for top in tops_of(path) if top in self._tops]
+        if len(found) > 1 and len(self._tops) < BUCKETS:
+            # From bucket to bucket it begins anywhere. In a bucket it takes the one that it came to first.
+            oldest: dict[int, bytes] = {}
+            for top in sorted(found, key=lambda top: self._tops[top]):
+                oldest.setdefault(sum(top) % BUCKETS, top)
+            found = [top for top in found if oldest[sum(top) % BUCKETS] == top]
+        return next(iter(found), None)
 
 
 def bounds_of(source: Target, question: Question) -> tuple[int, int]:
