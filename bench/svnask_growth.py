@@ -38,6 +38,7 @@ SHAPES: dict[Callable[[int], bytes], int] = {
     shapes.values_below: 1500,
     shapes.made_anew: 1000,
     shapes.renamed_files: 4000,
+    shapes.later_deletions: 3000,
 }
 # What stands for an argument, by its name in the help.
 ARGUMENTS = {"PATH[@PEG]": "trunk", "REV": "2", "FROM[@PEG]": "trunk@1", "TO[@PEG]": "trunk", "K": "3", "B": "100"}

@@ -28,6 +28,12 @@ def deletions(count: int) -> bytes:
     return dump_of(FOLDERS, [added(file, FILE) for file in files], list(map(deleted, files)))
 
 
+def later_deletions(count: int) -> bytes:
+    """Many files that are made by one revision, and deleted one by one."""
+    files = [b"trunk/f%d" % number for number in range(count)]
+    return dump_of([*FOLDERS, *(added(file, FILE) for file in files)], *([deleted(file)] for file in files))
+
+
 def directories(count: int) -> bytes:
     """Many branches that one revision makes, and not by copies."""
     return dump_of(FOLDERS, list(map(added, names(count))))

@@ -223,8 +223,8 @@ class Unmerged(base.Case):
         question = show_revs.Question("eligible")
         for source in (Target(life.path, history.head) for life in alive if life.path != target.path):
             answers = history.answers(show_revs.queries_of_question(history.explicit, source, target, question))
-            shown = show_revs.ShownMerges(history, history.explicit, answers).shown(source, target, question)
-            yield source.path, [*shown]
+            all_of = show_revs.ShownMerges(history, history.explicit, answers)
+            yield source.path, [*all_of.shown(source, target, question)]
 
     def test_the_recorded_repositories(self) -> None:
         for name in base.names():

@@ -10,6 +10,7 @@ import fnmatch
 import functools
 import itertools
 from collections.abc import Iterable, Iterator, Sequence
+from sys import intern
 from typing import NamedTuple
 
 from svnask import projects
@@ -59,6 +60,7 @@ class Event(NamedTuple):
     number: int
     action: str
     source: Place | None
+    kind: str | None = None
 
 
 BEFORE_ALL = Event(0, 0, "", None)
@@ -71,15 +73,16 @@ class Tree:
         self._events: dict[bytes, list[Event]] = {}
         self._names: dict[bytes, set[bytes]] = {}
         self._known: dict[Place, bool] = {}
-        self._made: dict[Place, Place | None] = {}
+        self._kinds: dict[Place, str | None] = {}
         # The revisions that made or unmade a path.
         self.revisions: set[int] = set()
         for record in records:
             if record.action != "change":
                 self.revisions.add(record.rev)
-                self._events.setdefault(record.path, []).append(
-                    Event(record.rev, record.number, record.action, record.source)
-                )
+                # Events share these words.
+                action, kind = intern(record.action), record.kind and intern(record.kind)
+                event = Event(record.rev, record.number, action, record.source, kind)
+                self._events.setdefault(record.path, []).append(event)
                 top, _, name = record.path.rpartition(b"/")
                 if name:
                     self._names.setdefault(top or b"/", set()).add(name)
@@ -128,27 +131,23 @@ class Tree:
         """Return where the node at a path of a revision was copied from last, if it was."""
         return self._step(path, rev)[1]
 
-    def made(self, path: bytes, rev: int) -> Place | None:
-        """The place at which a path of a revision was made, before it was copied, if it is there."""
+    def kind(self, path: bytes, rev: int) -> str | None:
+        """Return the kind of a path of a revision, as the record says that added it before it was copied, if it is
+        there."""
         place: Place | None = (path, rev)
-        found: Place | None = None
+        found: str | None = None
         passed: list[Place] = []
-        while place is not None and place not in self._made:
+        while place is not None and place not in self._kinds:
             passed.append(place)
             is_there, place = self._step(*place)
             if is_there:
-                found = self._place_of_event(*passed[-1])
+                event, _ = self._newest(*passed[-1])
+                found = "dir" if event is None else event.kind
         if place is not None:
-            found = self._made[place]
+            found = self._kinds[place]
         # Of what was not copied nothing is kept: there may be much of that.
-        self._made.update((each, found) for each in passed[:-1])
+        self._kinds.update((each, found) for each in passed[:-1])
         return found
-
-    def _place_of_event(self, path: bytes, rev: int) -> Place:
-        """A path with the revision of its last event up to one. The root has been there from the first one on."""
-        events = self._events.get(path, [])
-        at = count_up_to(events, rev)
-        return path, events[at - 1].rev if at else 0
 
     def is_made(self, path: bytes, first: int, last: int, highest: bytes = b"/") -> bool:
         """Return whether a record of some revisions made or unmade a path or one above it, up to the highest one."""

@@ -404,13 +404,8 @@ class OpenHistory:
         >>> history.kinds([(b"/trunk", 13), (b"/none", 13)])
         {(b'/trunk', 13): 'dir'}
         """
-        made = {(path, rev): self.tree.made(clean(path), rev) for path, rev in places if 0 <= rev <= self.head}
-        kinds: dict[Place | None, str] = {(b"/", 0): "dir"}
-        for rev in {first[1] for first in made.values() if first is not None}:
-            for record in self.records(rev, rev):
-                if record.kind is not None and record.action in ("add", "replace"):
-                    kinds[record.path, rev] = record.kind
-        return {place: kinds[first] for place, first in made.items() if first in kinds}
+        found = {(path, rev): self.tree.kind(clean(path), rev) for path, rev in places if 0 <= rev <= self.head}
+        return {place: kind for place, kind in found.items() if kind is not None}
 
     def revision(self, rev: int) -> Revision:
         """Who committed a revision, when, and with which message.
