@@ -239,7 +239,7 @@ class Coverage:
         """Return the path of the source at or above a changed path. Of several the longest one that `svn` may take."""
         found = [top for top in tops_of(path) if top in self._tops]
         if len(found) > 1 and len(self._tops) < BUCKETS:
-            # From bucket to bucket it begins anywhere. In a bucket it takes the one that it came to first.
+            # It may begin at any bucket. In a bucket the oldest path comes first.
             oldest: dict[int, bytes] = {}
             for top in sorted(found, key=lambda top: self._tops[top]):
                 oldest.setdefault(sum(top) % BUCKETS, top)
