@@ -131,7 +131,8 @@ def own_history(segments: Segments) -> dict[bytes, Revisions]:
 def candidates(explicit: Explicit, life: Life) -> list[int]:
     """The revisions in which the mergeinfo of a life may change: its first one, and those with an event of its path or
     of one above it."""
-    later = {rev for path in tops_of(life.path) for rev in explicit.events(path) if life.first < rev <= life.last}
+    events = (in_range(explicit.events(path), life.first + 1, life.last) for path in tops_of(life.path))
+    later = set().union(*events)
     return [life.first, *sorted(later)]
 
 
