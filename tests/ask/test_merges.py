@@ -207,7 +207,7 @@ class ShowRevs(base.Case):
 
 
 class Unmerged(base.Case):
-    """What is left of branches, of which only what the target was not is asked, is what is eligible of each."""
+    """A branch is asked about only where it was not the target. Still, what is left of it is what is eligible."""
 
     def check(self, dump: Path) -> None:
         history = self.history(dump)
