@@ -9,6 +9,7 @@ from __future__ import annotations
 import os
 import signal
 import threading
+import warnings
 from collections.abc import Iterable, Iterator, Sequence
 from contextlib import ExitStack, contextmanager, suppress
 from typing import IO, Callable, NoReturn, TypeVar
@@ -50,7 +51,9 @@ class Maker:
         read_end, write_end = os.pipe()
         self._stream = open(read_end, "rb")
         try:
-            with signals_blocked() as before:
+            with signals_blocked() as before, warnings.catch_warnings():
+                # A thread that has ended may still be there for the system, of which Python 3.12 warns.
+                warnings.simplefilter("ignore", DeprecationWarning)
                 self._process = os.fork()
                 if self._process == 0:
                     # A process that writes ends where nobody else can read that.
