@@ -4,6 +4,7 @@ from __future__ import annotations
 import bisect
 import re
 from collections.abc import Iterable, Iterator, Sequence
+from functools import cache
 from typing import NamedTuple
 
 from svnask.branches.questions import Touched, touched
@@ -195,12 +196,13 @@ def several_in(graph: Graph) -> Iterator[Several]:
 def shown_merges(graph: Graph) -> Iterator[ShownMerge]:
     """Yield the merges, but for what another branch carried along, and how git can show them."""
     copied_from = {copy.lane: copy.source for copy in graph.copies}
+    known = cache(lambda number: frozenset(graph.lanes[number].revisions))
     tallies: dict[tuple[int, int], Brought] = {}
     for merge in graph.merges:
         source, target = graph.lanes[merge.source], graph.lanes[merge.target]
         if (merge.source, merge.target) not in tallies:
             begin = history_begin(source, target, copied_from.get(merge.target) == merge.source)
-            tallies[merge.source, merge.target] = Brought(source.revisions, begin)
+            tallies[merge.source, merge.target] = Brought(source.revisions, known(merge.source), begin)
         brought = tallies[merge.source, merge.target]
         brought.add(merge.revisions)
         if not merge.is_carried:
@@ -211,19 +213,22 @@ def shown_merges(graph: Graph) -> Iterator[ShownMerge]:
 class Brought:
     """The revisions of a branch after one that were merged into another branch so far."""
 
-    def __init__(self, revisions: Sequence[int], begin: int) -> None:
-        self._revisions, self._begin, self._newest = revisions, begin, begin
+    def __init__(self, revisions: Sequence[int], known: frozenset[int], begin: int) -> None:
+        self._revisions, self._known, self._begin, self._newest = revisions, known, begin, begin
         self._merged: set[int] = set()
+        self._count = 0
 
     def add(self, merged: Sequence[int]) -> None:
         self._newest = max(self._newest, merged[-1])
-        self._merged.update(rev for rev in merged if rev > self._begin and in_range(self._revisions, rev, rev))
+        new = self._known.intersection(merged).difference(self._merged)
+        self._merged |= new
+        self._count += sum(rev > self._begin for rev in new)
 
     @property
     def is_whole(self) -> bool:
         """Return whether all of them up to the newest one that was merged were."""
         first, last = (bisect.bisect_right(self._revisions, rev) for rev in (self._begin, self._newest))
-        return len(self._merged) == last - first
+        return self._count == last - first
 
 
 def how_in_git(merge: LaneMerge, is_whole: bool) -> str:
