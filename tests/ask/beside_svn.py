@@ -32,7 +32,7 @@ from interop.outputs import as_url
 from interop.repository import Repository
 from interop.tools import ENVIRONMENT, Tools, url_of
 from tests.ask import base, grown
-from tests.ask.drawn_repositories import drawn, synchronized
+from tests.ask.drawn_repositories import MALFORMED, OTHERWISE_READ, drawn, synchronized
 
 ERROR = re.compile(r"^svn(?:ask)?: (E[0-9]+):", re.MULTILINE)
 ATTRIBUTES = re.compile(rb"<(\w+)((?:\n   [\w-]+=\"[^\"]*\")+)>")
@@ -117,7 +117,7 @@ def dump_of(number: int, names: Sequence[str]) -> bytes:
     sort = chance.random()
     if sort < 0.3:
         return base.content_of(chance.choice(names))
-    return synchronized(chance) if sort < 0.55 else drawn(chance)
+    return synchronized(chance) if sort < 0.55 else drawn(chance, MALFORMED + OTHERWISE_READ)
 
 
 def loaded(name: str, number: int, folder: Path, server: Server | None = None) -> Place:
@@ -162,10 +162,9 @@ def path_in(chance: random.Random, place: Place) -> tuple[str, int]:
 
 def bounds(chance: random.Random, place: Place) -> str:
     """Return a revision or a range of revisions. They may have names, or be those of a date where all have one."""
-    named = ["HEAD"] if place.growing is None else ["HEAD", "{2024-01-01T00:06:30Z}"]
+    named = ["HEAD", "rHEAD"] if place.growing is None else ["HEAD", "{2024-01-01T00:06:30Z}", "r{2024-01-02}"]
     first, last = (
-        chance.choice(named) if chance.random() < 0.05 * len(named) else str(chance.randint(0, place.head))
-        for _ in range(2)
+        chance.choice(named) if chance.random() < 0.1 else str(chance.randint(0, place.head)) for _ in range(2)
     )
     return first if chance.random() < 0.1 else f"{first}:{last}"
 
@@ -202,13 +201,19 @@ def search(chance: random.Random, place: Place) -> list[str]:
 
 
 def diagram(chance: random.Random, place: Place) -> list[str]:
-    return ["mergeinfo", target(chance, place), target(chance, place)]
+    """Return a diagram. With the root as its source `svn` may fail, where svnask draws one."""
+    sources = (target(chance, place) for _ in itertools.count())
+    return ["mergeinfo", next(each for each in sources if not is_root(each)), target(chance, place)]
+
+
+def is_root(named: str) -> bool:
+    return named.partition("@")[0] == "/"
 
 
 def merges(chance: random.Random, place: Place) -> list[str]:
     """Return what was merged, mostly as a log. That of the root with all below it is refused."""
     verb, source, merged = chance.choice(("merged", "eligible")), target(chance, place), target(chance, place)
-    options = some(chance, recursive=0 if merged.partition("@")[0] == "/" else 0.3)
+    options = some(chance, recursive=0 if is_root(merged) else 0.3)
     if chance.random() < 0.7:
         options += ["--log", *some(chance, verbose=0.5, quiet=0.2, incremental=0.1)]
     if chance.random() < 0.2:

@@ -3,6 +3,7 @@ features that are synchronized with what they were copied from, and come back to
 from __future__ import annotations
 
 import random
+from collections.abc import Sequence
 from typing import NamedTuple, Optional
 
 from dev.dumps import (
@@ -21,12 +22,31 @@ from dev.dumps import (
     section,
 )
 
-PATHS = b"trunk trunk/a trunk/a/b trunk/f trunk/a/g b b/one b/two b/one/a t t/x".split()
 AUTHORS = (b"alice", b"bob", b"J\xc3\xb6rg", b"", b"ann<&>'\"", b"a\x01b", None)
 WORDS = (*b"Merge fix Caf\xc3\xa9 R\xc3\x89SUM\xc3\x89 [x] a*b <&>\"' \x7f r3".split(), b"\n", b"\r\n", b"\t")
 DATES = (b"2024-01-%02dT00:00:00.000000Z", b"", b"soon %d", None)
-MALFORMED = (b"no colon", b"/trunk:0", b"/b/one:5-3", b"/trunk:1\n\n", b"/trunk:", b"/trunk:3-5,4*")
+MALFORMED = (
+    *(b"no colon", b"/trunk:0", b"/b/one:5-3", b"/trunk:1\n\n", b"/trunk:", b"/trunk:3-5,4*"),
+    *(b"/trunk:1-9 ", b"/trunk:1-9,"),
+)
+# Those that are malformed for one of Subversion and svnhist alone.
+OTHERWISE_READ = (b"/trunk:2\n/b/one:", b"/trunk:1-9,\n/b:2", b"/trunk:\v1-9", b"/trunk:00000000002", b"\n")
 MOST_PATHS = 40
+
+
+class Names(NamedTuple):
+    """The paths of a history, of which it begins with the first eight, and further names in some directory."""
+
+    paths: list[bytes]
+    others: tuple[bytes, ...]
+
+
+USUAL = Names(b"trunk trunk/a trunk/a/b trunk/f trunk/a/g b b/one b/two b/one/a t t/x".split(), (b"c", b"d", b"f"))
+# Those that mean something else in a URL, in mergeinfo, in XML or for whoever prints a path.
+ODD = Names(
+    b"trunk,trunk/a b,trunk/a b/b@2,trunk/%41f,trunk/a b/<&g,b,b/o:1,b/\xc3\xa9,b/o:1/a b,b/o,t;t,t;t/x*".split(b","),
+    (b" c", b"@", b"d:3-4", b"#f"),
+)
 
 
 class Entry(NamedTuple):
@@ -51,9 +71,8 @@ def subtree(tree: Tree, top: bytes) -> Tree:
 class Draft:
     """A revision in the making. A path that one of its records changed is not changed again."""
 
-    def __init__(self, chance: random.Random, trees: list[Tree]) -> None:
-        self.chance = chance
-        self.trees = trees
+    def __init__(self, chance: random.Random, names: Names, odd_values: Sequence[bytes], trees: list[Tree]) -> None:
+        self.chance, self.names, self.odd_values, self.trees = chance, names, odd_values, trees
         self.tree = dict(trees[-1])
         self.nodes: list[Node] = []
         self.touched: set[bytes] = set()
@@ -68,9 +87,9 @@ class Draft:
     def new_path(self) -> Optional[bytes]:
         """A path that is drawn among the usual ones, or a name in some directory."""
         folders = [path for path, entry in self.tree.items() if entry.kind == DIR and path.count(b"/") < 3]
-        path = self.chance.choice(PATHS)
+        path = self.chance.choice(self.names.paths)
         if folders and self.chance.random() < 0.4:
-            path = self.chance.choice(sorted(folders)) + b"/" + self.chance.choice((b"c", b"d", b"f"))
+            path = self.chance.choice(sorted(folders)) + b"/" + self.chance.choice(self.names.others)
         top = path.rpartition(b"/")[0]
         has_top = not top or (top in self.tree and self.tree[top].kind == DIR)
         return path if has_top and self.is_free(path) else None
@@ -174,7 +193,7 @@ class Draft:
         if sort < 0.1:
             return kept
         if sort < 0.13:
-            return {**kept, MERGEINFO: chance.choice(MALFORMED)}
+            return {**kept, MERGEINFO: chance.choice(self.odd_values)}
         if sort < 0.3 and lines:
             lines.remove(chance.choice(lines))
         else:
@@ -203,14 +222,15 @@ def properties_of(chance: random.Random, rev: int) -> dict[bytes, Optional[bytes
     return {name: value for name, value in found.items() if value is not None}
 
 
-def drawn(chance: random.Random) -> bytes:
-    """A dump of up to 25 revisions."""
+def drawn(chance: random.Random, odd_values: Sequence[bytes] = MALFORMED) -> bytes:
+    """A dump of up to 25 revisions. Few values of mergeinfo are odd ones."""
     trees: list[Tree] = [{}]
+    names = ODD if chance.random() < 0.3 else USUAL
     revisions = [Revision(0, (), properties_of(chance, 0) if chance.random() < 0.5 else None)]
     for rev in range(1, chance.choice((8, 14, 25)) + 1):
-        draft = Draft(chance, trees)
+        draft = Draft(chance, names, odd_values, trees)
         if rev == 1:
-            for path in PATHS[:8]:
+            for path in names.paths[:8]:
                 kind = FILE if path.endswith((b"f", b"g")) else DIR
                 draft.put(
                     Node(path, b"add", kind, None, section({}), b"f\n" if kind == FILE else None),

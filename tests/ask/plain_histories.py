@@ -32,8 +32,12 @@ class Plain:
     def is_listed(self, path: plain.Path, rev: int) -> bool:
         """Return whether `svn log` lists a revision of a path: also one that copied it or a path above it to itself,
         and each one of the root."""
+        return not path or self.is_copied(path, rev) or plain.is_operative(self.history, path, rev)
+
+    def is_copied(self, path: plain.Path, rev: int) -> bool:
+        """Return whether a revision copied a path or one above it to where it is now."""
         copied = any(record.source and plain.is_below(path, record.path) for record in self.records[rev])
-        return copied or not path or plain.is_operative(self.history, path, rev)
+        return copied and path in self.history.trees[rev]
 
     def has(self, place: plain.Place, source: plain.Path, rev: int) -> bool:
         try:
@@ -69,7 +73,7 @@ class Plain:
         last = len(self.history.trees) - 1
         for source, runs in plain.effective(self.history.trees[place.revision], place.path).items():
             for run, rev in ((run, rev) for run in runs for rev in range(run.low, min(run.high, last) + 1)):
-                if not plain.is_operative(self.history, source, rev):
+                if not (self.is_copied(source, rev) or plain.is_operative(self.history, source, rev)):
                     continue
                 if self.is_recorded(place, source, rev):
                     held.recorded.add(rev)

@@ -4,10 +4,11 @@ from __future__ import annotations
 import re
 from typing import NamedTuple
 
-from svnask.digits import number
-
-RANGE = re.compile(rb"([0-9]+)(?:-([0-9]+))?(\*?)\Z")
+# A number has ten digits at most, with its leading zeros.
+RANGE = re.compile(rb"([0-9]{1,10})(?:-([0-9]{1,10}))?(\*?)\Z")
 GREATEST = 2147483647
+# What may stand between the colon of a line and its ranges.
+BLANKS = b" \t\r\v\f"
 
 
 class Run(NamedTuple):
@@ -27,8 +28,7 @@ def runs_of(text: bytes) -> list[Run]:
         found = RANGE.match(element)
         if found is None:
             raise ValueError("no range of revisions")
-        lo = number(found[1])
-        hi = number(found[2] or found[1])
+        lo, hi = int(found[1]), int(found[2] or found[1])
         if lo < 1 or hi > GREATEST or (found[2] is not None and lo >= hi):
             raise ValueError("no range of revisions")
         runs.append(Run(lo, hi, not found[3]))
@@ -47,8 +47,14 @@ def has_clash(runs: list[Run]) -> bool:
     return False
 
 
+def until_zero(text: bytes) -> bytes:
+    """Return what Subversion reads of a text."""
+    return text.partition(b"\0")[0]
+
+
 def lines_of(text: bytes) -> list[bytes]:
-    """The lines of a text, of which the last one may end with a newline."""
+    """The lines of a text, of which the last one may end with a newline. Before one a comma says nothing."""
+    text = until_zero(text).replace(b",\n", b"\n")
     lines = text.split(b"\n") if text else []
     if len(lines) > 1 and lines[-1] == b"":
         lines.pop()
@@ -60,7 +66,7 @@ def line_of(line: bytes) -> tuple[bytes, list[Run]]:
     path, colon, ranges = line.rpartition(b":")
     if not colon:
         raise ValueError("no colon")
-    return source_path(path), runs_of(ranges.strip(b" \t").rstrip(b","))
+    return source_path(path), runs_of(ranges.lstrip(BLANKS))
 
 
 def source_path(path: bytes) -> bytes:

@@ -2,12 +2,13 @@
 
 What svnhist answers is taken from it: where both were, the log of the source, the mergeinfo of the target and of paths
 below it, and, but for `-R`, what was merged and what is eligible. `svn` also looks at the changed paths of a revision,
-lists some revisions that svnhist does not, and reads some texts that are malformed for svnhist; that is added here.
+and lists some revisions that svnhist does not. Some texts are malformed for one of the two alone. That is added here.
 """
 from __future__ import annotations
 
 import bisect
 import itertools
+import re
 from collections import ChainMap
 from collections.abc import Iterable, Iterator, Mapping, MutableMapping
 from typing import NamedTuple
@@ -24,6 +25,8 @@ from svnask.merges.gains import NONE
 from svnask.paths import is_at_or_below, joined, rest_below, tops_of
 from svnask.revisions import Revisions, in_range
 
+# What svnhist reads and Subversion may not: a path without revisions, a number of many digits, and no line at all.
+ODD = re.compile(rb":[ \t]*(?:\n|\Z)|[0-9]{11}|\A\n\Z")
 # How many buckets the hash table of `svn` has for fewer paths. A path is in one by the sum of its bytes.
 BUCKETS = 16
 # For each path the revisions in which a history was there, and those of them that its log lists.
@@ -307,6 +310,8 @@ class ShownMerges:
         self._explicit = explicit
         self._answers = answers
         self._known: dict[Mergeinfo, Lines | None] = {}
+        # Those of them whose values svnhist may read in another way.
+        self._odd: set[Mergeinfo] = set()
 
     def shown(
         self, source: Target, target: Target, question: Question, about_source: Answers | None = None
@@ -330,7 +335,9 @@ class ShownMerges:
         if not is_merged:
             add_own_history(catalog, own, there, listed)
         same = set().union(*shared(own, listed).values())
-        found = as_answered(answers, source, target, question, sort_out(catalog, listed), same)
+        found = sort_out(catalog, listed)
+        if Mergeinfo(*target) not in self._odd:
+            found = as_answered(answers, source, target, question, found, same)
         chosen = found.whole | found.partial if is_merged else set().union(*listed.values()) - found.whole
         is_falling = question.range is not None and question.range[0] > question.range[1]
         revisions = sorted(chosen & set().union(*listed.values()), reverse=is_falling)
@@ -353,31 +360,27 @@ class ShownMerges:
         return self._known[query]
 
     def _read(self, query: Mergeinfo, answer: Inherited) -> Lines | None:
-        if answer.status == "malformed-mergeinfo":
-            return self._read_less_strictly(query)
-        if not answer.ok:
-            # The target is there, and so is each path below it that has a value.
+        """Return what the nearest value says of a path, which is there. It may be empty."""
+        above, text = self._nearest(query)
+        if answer.status != "malformed-mergeinfo" and not answer.ok:
             raise RuntimeError(f"svnhist says {answer.status} of {query!r}")
-        if not answer.text and not self._has_value(query):
+        if text is None:
             return None
-        value = {path: runs_of(ranges.encode("ascii")) for path, ranges in answer.value.items()}
-        return lines_of_value(value, self._history.head)
+        if ODD.search(text):
+            self._odd.add(query)
+        elif answer.ok:
+            value = {path: runs_of(ranges.encode("ascii")) for path, ranges in answer.value.items()}
+            return lines_of_value(value, self._history.head)
+        own = value_of(text)
+        if own is None:
+            return None
+        lines = lines_of_value(own, self._history.head)
+        return lines if above == query.path else inherited_lines(lines, rest_below(query.path, above))
 
-    def _has_value(self, query: Mergeinfo) -> bool:
-        """Return whether a path or one above it has a value. Its effective mergeinfo may be empty even so."""
-        return any(self._explicit.text(path, query.rev) is not None for path in tops_of(query.path))
-
-    def _read_less_strictly(self, query: Mergeinfo) -> Lines | None:
-        """Return what a text that is malformed for svnhist says to Subversion, which is less strict."""
-        for above in tops_of(query.path):
-            text = self._explicit.text(above, query.rev)
-            if text is not None:
-                value = value_of(text)
-                if value is None:
-                    return None
-                lines = lines_of_value(value, self._history.head)
-                return lines if above == query.path else inherited_lines(lines, rest_below(query.path, above))
-        return None
+    def _nearest(self, query: Mergeinfo) -> tuple[bytes, bytes | None]:
+        """Return the nearest path at or above one that has a value, and this, or the root without one."""
+        texts = ((above, self._explicit.text(above, query.rev)) for above in tops_of(query.path))
+        return next((each for each in texts if each[1] is not None), (b"/", None))
 
 
 def starred(

@@ -10,7 +10,7 @@ from typing import NamedTuple
 from svnask.copy.changes import Made
 from svnask.history.open_history import OpenHistory
 from svnask.mergeinfo.explicit import Explicit
-from svnask.mergeinfo.values import Run, line_of, lines_of, source_path
+from svnask.mergeinfo.values import Run, line_of, lines_of, source_path, until_zero
 from svnask.merges.traces import Traces
 from svnask.paths import NUL_FOR_SLASH, Place, is_at_or_below, joined, rest_below, tops_of
 from svnask.revisions import Range, Revisions
@@ -112,11 +112,11 @@ class Values:
 
     def _whole(self, text: bytes) -> PathRanges:
         """Return what a text says, whether it is inherited or not."""
-        found: PathRanges = {}
+        found: dict[bytes, ValueLine] = {}
         for line in self._of(text):
             before = found.get(line.path)
-            found[line.path] = line.whole if before is None else joined_ranges(before, line.whole)
-        return found
+            found[line.path] = line if before is None else joined_lines(before, line)
+        return {path: line.whole for path, line in found.items()}
 
     def inheritable(self, text: bytes, rest: bytes = b"") -> PathRanges:
         """Return what a path below that has the text inherits."""
@@ -162,7 +162,7 @@ class Differences:
         return found
 
     def _text(self, given: Place | None) -> bytes:
-        return b"" if given is None else self._explicit.text(*given) or b""
+        return b"" if given is None else until_zero(self._explicit.text(*given) or b"")
 
 
 def line_in(text: bytes) -> ValueLine:
@@ -176,6 +176,13 @@ def line_in(text: bytes) -> ValueLine:
     inheritable = ranges_of_runs(runs, True)
     is_plain = text.startswith(path + b":") and is_rising(runs)
     return ValueLine(path, sorted(inheritable + ranges_of_runs(runs, False)), inheritable, is_plain)
+
+
+def joined_lines(line: ValueLine, other: ValueLine) -> ValueLine:
+    """Return what two lines of a path say. What one of them has as inheritable is."""
+    inheritable = joined_ranges(line.inheritable, other.inheritable)
+    rest = Revisions([*line.whole, *other.whole]) - Revisions(inheritable)
+    return ValueLine(line.path, sorted(inheritable + rest.ranges), inheritable, False)
 
 
 def simple_runs(ranges: bytes) -> list[Range] | None:
