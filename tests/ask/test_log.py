@@ -106,8 +106,8 @@ class Log(base.Case):
             ("-c -2,10 tags/one-1.0@7", [2]), ("-c -3,-10,7-3 -l 4 tags/one-1.0/main.c@7", [3, 6, 3]),
             ("-r 1 -r 4:9 -r 3:2 branches/two", [1, 5, 9, 2]), ("-r 9 -r 1 -r 13 branches/two", [9, 1]),
             ("-c 9-11,2 branches/two", [9, 11, 2]), ("-c r11-r9 branches/two", [11, 9]), ("-c , -l 2 trunk", [5, 2]),
-            ("-c rr5 trunk", [5]), ("-c +5 trunk", [5]), ("-c 5- trunk", [5, 2, 1]), ("-r rr5 trunk", [5]),
-            ("-l +1 trunk", [5]),
+            ("-c rr5,r-2 trunk", [5, 2]), ("-c +5 trunk", [5]), ("-c 5- trunk", [5, 2, 1]), ("-r rr5 trunk", [5]),
+            ("-l +1 trunk", [5]), ("-r rHEAD:r2 trunk", [5, 2]), ("-l 1 trunk@r{2024-01-01T00:04Z}", [2]),
         )
         # fmt: on
         for words, wanted in rows:

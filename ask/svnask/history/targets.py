@@ -11,9 +11,9 @@ from svnask.paths import split_peg
 from svnask.sources.access import IS_URL
 from svnask.texts import encoded
 
-NUMBER = re.compile(r"r*([0-9]+)\Z")
+NUMBER = re.compile(r"[0-9]+\Z")
 # A word of `-c`: a minus for the way back, and one number or two.
-CHANGE = re.compile(r"(-?)r*\+?([0-9]+)(?:(-)r*\+?([0-9]*))?\Z")
+CHANGE = re.compile(r"(-(?=r*\+?[0-9])|r+-(?=[0-9]))?r*\+?([0-9]+)(?:(-)r*\+?([0-9]*))?\Z")
 DATE = re.compile(r"\{(.*)\}\Z", re.DOTALL)
 WORDS = re.compile(r"(?:BASE|PREV|COMMITTED)\Z", re.IGNORECASE)
 
@@ -70,18 +70,24 @@ def paths_below(texts: list[str]) -> list[bytes]:
 
 
 def revision_of(history: OpenHistory, text: str) -> int:
-    """A revision by its number, `HEAD` or `{DATE}`. It may be above the youngest one."""
-    found = NUMBER.match(text)
-    if found:
-        return number(found[1])
-    if text.upper() == "HEAD":
+    """A revision by its number, `HEAD` or `{DATE}`, also after letters `r`. It may be above the youngest one."""
+    named = text.lstrip("r")
+    if NUMBER.match(named):
+        return number(named)
+    if named.upper() == "HEAD":
         return history.head
-    date = DATE.match(text)
+    date = DATE.match(named)
     if date:
         return history.revision_at(date[1])
-    if WORDS.match(text):
+    if WORDS.match(named):
         raise Denied("E195002", "PREV, BASE, or COMMITTED revision keywords are invalid for URL")
     raise syntax_error(text)
+
+
+def is_revision(text: str) -> bool:
+    """Return whether a word has the form of a revision that there may be."""
+    named = text.lstrip("r")
+    return bool(NUMBER.match(named) or DATE.match(named) or named.upper() == "HEAD")
 
 
 def syntax_error(text: str) -> Denied:

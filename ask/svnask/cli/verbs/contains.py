@@ -11,7 +11,7 @@ from svnask.branches import questions as branches
 from svnask.cli.verbs.log import glob_of
 from svnask.errors import Usage
 from svnask.history.open_history import OpenHistory
-from svnask.history.targets import DATE, NUMBER, known, pattern_of, range_of, revision_of
+from svnask.history.targets import is_revision, known, pattern_of, range_of, revision_of
 from svnask.log.forms import SHOWN, as_wanted, sieve_of
 from svnask.log.plain import author_of, date_of
 from svnask.log.search import Glob, is_found
@@ -88,10 +88,6 @@ def patterns_by_peg(history: OpenHistory, texts: Sequence[str]) -> dict[int | No
 def split_words(words: Sequence[str]) -> tuple[list[str], list[str]]:
     """The words that are revisions, and those that are patterns."""
     return [*filter(is_revision, words)], [word for word in words if not is_revision(word)]
-
-
-def is_revision(word: str) -> bool:
-    return bool(NUMBER.match(word) or DATE.match(word) or word.upper() == "HEAD")
 
 
 def searched(history: OpenHistory, globs: Sequence[Glob]) -> Iterator[int]:
