@@ -21,7 +21,7 @@ Moment = tuple[int, int]
 
 WEEKDAYS = (b"Mon", b"Tue", b"Wed", b"Thu", b"Fri", b"Sat", b"Sun")
 MONTHS = (b"Jan", b"Feb", b"Mar", b"Apr", b"May", b"Jun", b"Jul", b"Aug", b"Sep", b"Oct", b"Nov", b"Dec")
-STORED = re.compile(rb"(\d+)-(\d+)-(\d+)T(\d+):(\d+):(\d+)\.(\d+)Z")
+STORED = re.compile(rb"(\d+)-(\d+)-(\d+)T(\d+):(\d+):(\d+)\.(\d*)Z")
 # As Subversion writes it today: the hour, and what is shown as it is.
 USUAL = re.compile(rb"(\d{4}-\d\d-\d\dT(?:[01]\d|2[0-3]))(:[0-5]\d:[0-5]\d)\.\d{6}Z")
 OLD = re.compile(rb"\w{3} (\d+) (\w{3}) (\d+) (\d+):(\d+):(\d+)\.(\d+) \(day \d+, dst \d+, gmt_off (-?\d+)\)")
@@ -36,7 +36,7 @@ CYCLE, SECONDS_OF_CYCLE = 400, 146097 * 86400
 
 def moment(year: int, month: int, day: int, hour: int, minute: int, second: int, micros: int) -> Moment | None:
     """A moment by UTC. A day or a second too many is one of the next month or minute."""
-    if year < 1970 or not 1 <= month <= 12 or max(year, day, hour, minute, second, micros) > MOST_OF_PART:
+    if not 1 <= month <= 12 or max(year, day, hour, minute, second, micros) > MOST_OF_PART:
         return None
     cycles, rest = divmod(year - 1970, CYCLE)
     seconds = seconds_of((1970 + rest, month, day, hour, minute, second)) + cycles * SECONDS_OF_CYCLE
@@ -54,7 +54,7 @@ def read_date(date: bytes) -> Moment | None:
     """The moment of a value of `svn:date`."""
     found = STORED.match(date)
     if found:
-        year, month, day, hour, minute, second, micros = map(number, found.groups())
+        year, month, day, hour, minute, second, micros = (number(each or b"0") for each in found.groups())
         return moment(year, month, day, hour, minute, second, micros)
     found = OLD.match(date)
     if found and found[2] in MONTHS:
