@@ -1,8 +1,10 @@
 """`check-mergeinfo`."""
 from __future__ import annotations
 
+from unittest import mock
 
 from dev.dumps import FILE, added, changed, copied, deleted, dump_of, mergeinfo
+from svnask.merges import soundness
 from tests.ask import base
 
 F, G = b"trunk/lib/f", b"b/one/lib/f"
@@ -40,7 +42,7 @@ class Soundness(base.Case):
             ([(b"trunk", b"/b/one:1-3")], [f"/trunk\t/b/one:1 {gone}"]),
             ([(b"trunk", b"/b/two:3-7")], [f"/trunk\t/b/two:3,5-7 {gone}"]),
             ([(b"trunk", b"/b/one:4-5,6,7-8")], [f"/trunk\t/b/one:4-5,7-8 {idle}"]),
-            ([(b"trunk", b"no colon")], ["/trunk\tcan't be read"]),
+            ([(b"trunk", b"no colon"), (b"b", b"/other:8 ")], ["/b\tcan't be read", "/trunk\tcan't be read"]),
             ([(b"trunk", b"/b/one:3-6"), (b"trunk/lib", b"/b/one/lib:3")],
              [f"/trunk/lib\t/b/one/lib:6 {lacking}"]),
             ([(b"trunk", b"/b/one:3-6"), (b"trunk/lib", b"/b/one/lib:3,6")], [f"/trunk/lib\t{same}"]),
@@ -49,10 +51,12 @@ class Soundness(base.Case):
             ([(b"trunk", b""), (b"trunk/lib", b"")], [f"/trunk/lib\t{same}"]),
         )
         # fmt: on
-        for values, wanted in rows:
-            done = self.found(*values)
-            self.assertEqual((done.output.decode().splitlines(), done.said), (wanted, ""), values)
-            self.assertEqual(done.status, 1 if wanted else 0, values)
+        for most in (soundness.MOST_SOURCES, 1):
+            for values, wanted in rows:
+                with mock.patch.object(soundness, "MOST_SOURCES", most):
+                    done = self.found(*values)
+                self.assertEqual((done.output.decode().splitlines(), done.said), (wanted, ""), values)
+                self.assertEqual(done.status, 1 if wanted else 0, values)
 
     def test_patterns_and_objects(self) -> None:
         values = (b"trunk", b"/nowhere:3"), (b"other", b"/nowhere:4")

@@ -2,6 +2,7 @@
 from __future__ import annotations
 
 from collections.abc import Iterable, Iterator, Sequence
+from functools import lru_cache
 from typing import NamedTuple
 
 from svnask.engine.queries import Answers, Log, is_askable
@@ -19,6 +20,8 @@ NO_REVISION = "the path is not in these revisions"
 NOT_OPERATIVE = "nothing was changed there"
 LACKING = "is lacking, and {} has it"
 INHERITED = "is the same as what {} gives, and could go"
+# How many source paths are looked at together, and how many values are kept that others may inherit.
+MOST_SOURCES, RECENT = 50000, 16
 
 
 class Finding(NamedTuple):
@@ -32,6 +35,25 @@ class Finding(NamedTuple):
 
 def text_of(ranges: Iterable[Range]) -> bytes:
     return rangelist_of(ranges).encode("ascii")
+
+
+class NearestValue(NamedTuple):
+    """The nearest path above one that has a value, and what it gives there."""
+
+    path: bytes
+    value: dict[bytes, list[Run]]
+
+
+class ValuedPath(NamedTuple):
+    """A path with what its own value says, None where it can't be read, and with the nearest value above it."""
+
+    path: bytes
+    value: Value | None
+    nearest: NearestValue | None
+
+    @property
+    def sources(self) -> list[bytes]:
+        return [*(self.value or ()), *(self.nearest.value if self.nearest else ())]
 
 
 class Paths:
@@ -62,28 +84,35 @@ class Paths:
         return in_range(self._operative.get(path, []), lo, hi)
 
 
-class NearestValue(NamedTuple):
-    """The nearest path above one that has a value, and what it gives there."""
-
-    path: bytes
-    value: dict[bytes, list[Run]]
-
-
 def whole_runs(runs: Iterable[Run]) -> list[Run]:
     return [run for run in runs if run.inheritable]
 
 
-def inherited(explicit: Explicit, path: bytes, head: int) -> NearestValue | None:
-    """Return what the nearest value above a path gives it, if that can be read."""
-    for above in [each for each in tops_of(path) if each != path]:
-        text = explicit.text(above, head)
-        if text is not None:
-            value = value_of(text)
-            if value is None:
-                return None
-            rest = rest_below(path, above)
-            return NearestValue(above, {joined(source, rest): whole_runs(runs) for source, runs in value.items()})
-    return None
+def valued_paths(explicit: Explicit, top: bytes, head: int) -> Iterator[ValuedPath]:
+    """Yield the paths at or below one that have a value. Many may inherit from the same one, which is read once."""
+    read = lru_cache(RECENT)(value_of)
+    for path, text in explicit.below(top, head):
+        above = ((each, explicit.text(each, head)) for each in tops_of(path) if each != path)
+        nearest, given = next((each for each in above if each[1] is not None), (b"", None))
+        value = None if given is None else read(given)
+        if value is None:
+            yield ValuedPath(path, read(text), None)
+        else:
+            rest = rest_below(path, nearest)
+            inherited = {joined(source, rest): whole_runs(runs) for source, runs in value.items()}
+            yield ValuedPath(path, read(text), NearestValue(nearest, inherited))
+
+
+def in_groups(found: Iterable[ValuedPath]) -> Iterator[list[ValuedPath]]:
+    """Yield neighbouring paths together, so that not too many sources are looked at."""
+    group, count = list[ValuedPath](), 0
+    for each in found:
+        group.append(each)
+        count += len(each.sources)
+        if count >= MOST_SOURCES:
+            yield group
+            group, count = [], 0
+    yield group
 
 
 def findings_of_source(paths: Paths, path: bytes, source: bytes, runs: Sequence[Run]) -> Iterator[Finding]:
@@ -122,32 +151,28 @@ def findings_of_nearest(paths: Paths, path: bytes, value: Value, nearest: Neares
         yield Finding(path, None, b"", INHERITED.format(above))
 
 
+def findings_of_group(history: OpenHistory, group: Sequence[ValuedPath]) -> Iterator[Finding]:
+    paths = Paths(history)
+    paths.ask(source for each in group for source in each.sources)
+    for path, value, nearest in group:
+        if value is None:
+            yield Finding(path, None, b"", MALFORMED)
+            continue
+        for source, runs in sorted(value.items()):
+            if is_askable(source):
+                yield from findings_of_source(paths, path, source, runs)
+        if nearest is not None:
+            yield from findings_of_nearest(paths, path, value, nearest)
+
+
 def findings(history: OpenHistory, patterns: Sequence[bytes]) -> list[Finding]:
     """Return what is wrong with the values of the youngest revision, at and below the paths that match a pattern, or
     else the path at which the source begins."""
-    explicit, tree = history.explicit, history.tree
+    tree = history.tree
     matching = {path for pattern in patterns for path in tree.matching(pattern)}
     for pattern in unmatched(tree, patterns, history.head):
         history.notice(f"no path matches '{decoded(pattern)}'")
-    paths = Paths(history)
-    values = {
-        path: value_of(text)
-        for path, text in explicit.below(b"/" if patterns else history.source.path, history.head)
-        if not patterns or not matching.isdisjoint(tops_of(path))
-    }
-    nearest = {path: inherited(explicit, path, history.head) for path in values}
-    paths.ask(source for value in values.values() for source in value or ())
-    paths.ask(source for each in nearest.values() if each is not None for source in each.value)
-    found: list[Finding] = []
-    for path, value in values.items():
-        if value is None:
-            found.append(Finding(path, None, b"", MALFORMED))
-            continue
-        for source, runs in sorted(value.items()):
-            if not is_askable(source):
-                continue
-            found += findings_of_source(paths, path, source, runs)
-        above = nearest[path]
-        if above is not None:
-            found += findings_of_nearest(paths, path, value, above)
-    return found
+    found = valued_paths(history.explicit, b"/" if patterns else history.source.path, history.head)
+    if patterns:
+        found = (each for each in found if not matching.isdisjoint(tops_of(each.path)))
+    return [finding for group in in_groups(found) for finding in findings_of_group(history, group)]
