@@ -16,6 +16,8 @@ LETTERS = {b"add": "A", b"change": "M", b"delete": "D", b"replace": "R"}
 # The offset in the block of a record, what stands before a section, and a block without these.
 OFFSET = re.compile(rb"\nAt: .*")
 SECTION = re.compile(rb"\nProp-content-length: ([0-9]{1,18})\nContent-length: .*\n\n")
+# The line with the path of a record.
+PATH_OF_RECORD = re.compile(BEGIN_OF_RECORD + rb"(.*\n)")
 # The block of a record without a kind, as that of a deletion is.
 WITHOUT_KIND = re.compile(BEGIN_OF_RECORD + rb".*\n(?!Node-kind: )")
 PLAIN = re.compile(

@@ -236,12 +236,17 @@ class Store:
         """The blocks of the records of a revision."""
         return self.between(self._begin(rev), self._end(rev))
 
-    def revisions_with(self, pattern: re.Pattern[bytes], first: int, last: int) -> Iterator[int]:
-        """Yield the revisions of a range in whose bytes a pattern is found, rising. A message may have it, too."""
+    def revisions_with(
+        self, pattern: re.Pattern[bytes], first: int, last: int, others: tuple[bytes, ...] = ()
+    ) -> Iterator[int]:
+        """Yield the revisions of a range in whose bytes a pattern is found, rising, but for a text that begins with one
+        of others. A message may have it, too."""
         newest = -1
         for part, begin, end in self._pieces(self.index.revisions[first], self._end(last)):
             before = self.index.kept.base if part is self.later else 0
             for found in pattern.finditer(part, begin, end):
+                if others and found[1].startswith(others):
+                    continue
                 rev = bisect.bisect_right(self.index.revisions, found.start() + before) - 1
                 if rev > newest:
                     newest = rev

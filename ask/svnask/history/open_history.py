@@ -539,6 +539,15 @@ class OpenHistory:
         # What is below has a NUL where others have a later letter.
         return changes[bisect.bisect_left(keys, key) : bisect.bisect_left(keys, key + b"\1")]
 
+    def revisions_beyond(self, top: bytes, first: int, last: int) -> Iterator[int]:
+        """The revisions of a range that may have changed a path neither at nor below one. All others have not.
+
+        >>> list(history.revisions_beyond(b"/branches/two", 7, 11))
+        [7, 8, 10]
+        """
+        below = (top[1:] + b"/", top[1:] + b"\n")
+        return self._store.revisions_with(copied_changes.PATH_OF_RECORD, first, last, below)
+
     def find_kinds(self, revs: Iterable[int]) -> None:
         """Complete the kinds in `changes` of these revisions. No record of a deletion has one.
 

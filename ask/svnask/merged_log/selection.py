@@ -7,6 +7,7 @@ ranges of revisions of other paths, each of which is walked in the same way.
 from __future__ import annotations
 
 from collections.abc import Iterable, Iterator, Sequence
+from functools import lru_cache
 from operator import attrgetter
 from typing import NamedTuple, Union
 
@@ -24,7 +25,7 @@ from svnask.texts import decoded
 
 END = Item(-1)
 NO_RUN = 0, -1
-# For how many revisions it is looked up at once what was merged in them.
+# For how many revisions it is looked up at once what was merged in them, or which of them changed what.
 AT_ONCE = 256
 # What a walk gives: some items, or a part that is walked before it goes on.
 Step = Union[list[Item], MergedPart]
@@ -82,6 +83,7 @@ class Walker:
         # The revisions that were sent as merged ones, and those that were left out since the last one that was sent.
         self._sent: set[int] = set()
         self._left_out: list[int] = []
+        self._beyond = lru_cache(64)(self._find_beyond)
         # Subversion keeps this for a falling range alone.
         self._searched: Walked | None = None
         # In how many revisions that were sent what is sent now was merged, for a server, which sends no other ends.
@@ -248,8 +250,15 @@ class Walker:
 
     def _is_elsewhere(self, rev: int) -> bool:
         """Return whether a revision changed a path that is not at or below where the targets were then."""
-        own = [path for path, revisions in self._own.items() if rev in revisions]
+        own = {path: found for path, revisions in self._own.items() if (found := revisions.range_with(rev))}
+        first = rev - rev % AT_ONCE
+        for top, (low, high) in own.items():
+            if rev not in self._beyond(top, max(low, first), min(high, first + AT_ONCE - 1)):
+                return False
         return any(not any(is_at_or_below(change.path, top) for top in own) for change in self._history.changes(rev))
+
+    def _find_beyond(self, top: bytes, low: int, high: int) -> set[int]:
+        return set(self._history.revisions_beyond(top, low, high))
 
 
 def falling(cuts: list[Cut], low: int, high: int) -> list[int]:
