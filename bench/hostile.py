@@ -13,6 +13,7 @@ from __future__ import annotations
 from collections.abc import Iterator
 from dataclasses import dataclass
 from pathlib import Path
+from statistics import median
 from typing import Callable, TypeVar
 
 from bench import hostile_dumps as dumps
@@ -131,8 +132,8 @@ class Input:
             raise Failed(f"{self.shape.title} has other answers than it must have, or ended with {outcome.shown()}")
 
     @property
-    def wall(self) -> float:
-        return min(each.wall for each in self.runs[1:] or self.runs)
+    def walls(self) -> list[float]:
+        return [each.wall for each in self.runs[1:] or self.runs]
 
     @property
     def peak(self) -> int:
@@ -144,23 +145,27 @@ def pair(setup: Setup, shape: Shape) -> tuple[Input, Input]:
     size = setup.scaled(shape.size)
     once, twice = (Input(setup, shape, times * size, f"times-{times}") for times in (1, 2))
     for attempt in range(ATTEMPTS):
-        # Both are run as often. The best of many beside one of few would show a difference that is none.
         for each in (once, twice) * (setup.times if attempt or twice.runs[0].wall < LONG else 0):
             each.runs.append(each.run())
-        if twice.wall <= MOST_TIME * once.wall or shape.per_byte is None:
+        if relative(once, twice) <= MOST_TIME or shape.per_byte is None:
             break
     return once, twice
 
 
+def relative(once: Input, twice: Input) -> float:
+    """Return the median, over all turns, of how much longer the second input takes."""
+    return median(after / before for before, after in zip(once.walls, twice.walls))
+
+
 def shape_row(setup: Setup, shape: Shape, spared: int) -> Row:
     once, twice = pair(setup, shape)
-    found = twice.wall / once.wall, twice.peak / once.peak
+    found = relative(once, twice), twice.peak / once.peak
     per_byte = max(max(0, each.peak - spared) / each.bytes for each in (once, twice))
     ratios: list[Cell] = [*found, per_byte]
     if shape.per_byte is not None:
         most = (MOST_TIME, MOST_MEMORY, shape.per_byte)
         ratios = [Limited(value, bound) for value, bound in zip((*found, per_byte), most)]
-    return [shape.title, once.bytes, once.reported / 1e6, once.wall, once.peak / 1e6, *ratios]
+    return [shape.title, once.bytes, once.reported / 1e6, min(once.walls), once.peak / 1e6, *ratios]
 
 
 def colliding_row(
@@ -180,9 +185,9 @@ def colliding_row(
     return [
         name,
         colliding.size,
-        colliding.wall,
-        others.wall,
-        Limited(colliding.wall / others.wall, MOST_OF_OTHERS),
+        min(colliding.walls),
+        min(others.walls),
+        Limited(min(colliding.walls) / min(others.walls), MOST_OF_OTHERS),
         fixed,
     ]
 

@@ -9,8 +9,10 @@ from collections.abc import Iterable, Mapping, Sequence
 from dataclasses import dataclass
 from operator import attrgetter
 from pathlib import Path
-from typing import Callable, TypeVar
+from statistics import median
+from typing import Callable, Generic, TypeVar
 
+from bench.tables import Limited
 from dev.running import Failed, Measured, Outcome, Words, measure
 from dev.tree import ROOT, SVNASK
 
@@ -117,29 +119,55 @@ def own_peak(taken: Measured) -> int:
     return int(taken.outcome.errors.split()[-1]) * 1024
 
 
-def best_in_turns(
+class Turns(Generic[Key]):
+    """Turns, in each of which a command of each kind ran, and what is counted as the cost of one."""
+
+    def __init__(self, cost: Callable[[Measured], float]) -> None:
+        self.cost = cost
+        self.taken: list[dict[Key, Measured]] = []
+
+    def best(self, key: Key) -> Measured:
+        return min((turn[key] for turn in self.taken), key=self.cost)
+
+    @property
+    def costs(self) -> dict[Key, float]:
+        """The least cost of each kind."""
+        return {key: self.cost(self.best(key)) for key in self.taken[0]}
+
+    def median(self, figure: Callable[[dict[Key, float]], float]) -> float:
+        """Return the median of a figure, made of the costs of each turn. One that compares two kinds is not led astray
+        by a lucky run of one of them, as a figure made of the least costs is."""
+        return median(figure({key: self.cost(taken) for key, taken in turn.items()}) for turn in self.taken)
+
+
+def in_turns(
     runs: Mapping[Key, Run],
     times: int,
-    cost: Callable[[Measured], float] = WALL,
-    is_met: Callable[[dict[Key, float]], bool] = lambda costs: True,
-) -> dict[Key, Measured]:
-    """Return the run of each kind that cost least, of so many in turns, or of some more if a limit is missed."""
-    best: dict[Key, Measured] = {}
+    cost: Callable[[Measured], float],
+    is_met: Callable[[Turns[Key]], bool] = lambda turns: True,
+) -> Turns[Key]:
+    """Run commands in so many turns, or in some more if a limit is missed."""
+    turns = Turns[Key](cost)
     for turn in range(ATTEMPTS * times):
-        if turn and turn % times == 0 and is_met({key: cost(taken) for key, taken in best.items()}):
+        if turn and turn % times == 0 and is_met(turns):
             break
-        for key, run in runs.items():
-            taken = run()
-            if key not in best or cost(taken) < cost(best[key]):
-                best[key] = taken
-    return best
+        turns.taken.append({key: run() for key, run in runs.items()})
+    return turns
 
 
 def walls(
     runs: Mapping[Key, Run], times: int, is_met: Callable[[dict[Key, float]], bool] = lambda seconds: True
 ) -> dict[Key, float]:
     """Return the seconds of the best run of each kind."""
-    return {key: taken.wall for key, taken in best_in_turns(runs, times, WALL, is_met).items()}
+    return in_turns(runs, times, WALL, lambda turns: is_met(turns.costs)).costs
+
+
+def relative(turns: Turns[str], most: float) -> Limited:
+    """Return how much more the second command costs than the first one. A loop may have run with them: beside `grep`,
+    which waits for memory, and which a slow machine hardly slows."""
+    beside, ours, *_ = turns.costs
+    most *= slowness(turns.median(lambda costs: costs.get(LOOP, 0)))
+    return Limited(turns.median(lambda costs: costs[ours] / costs[beside]), most)
 
 
 def load_into_cache(path: Path) -> Path:

@@ -1,13 +1,11 @@
 """Reading dumps from a pipe."""
 from __future__ import annotations
 
-from collections.abc import Iterator
-from functools import partial
 from typing import NamedTuple
 
 from bench.histories import FAULTY_BLOCK, LARGE_TEXTS, ORDINARY, RELEASES, Mix, generated
-from bench.measure import PIPE, REFUSED, Setup, best_in_turns, command
-from bench.tables import Cell, Limited, Row, Table, Tables
+from bench.measure import LOOP, PIPE, REFUSED, WALL, Setup, command, in_turns, loop, relative
+from bench.tables import Cell, Row, Table, Tables
 
 
 class Read(NamedTuple):
@@ -26,26 +24,22 @@ READ = {
 }
 
 
-def is_met(most: float, seconds: dict[str, float]) -> bool:
-    return seconds[""] <= most * seconds["beside"]
-
-
-def rows(setup: Setup) -> Iterator[Row]:
-    for name, read in READ.items():
-        dump = generated(setup.folder / name, read.mix, setup.scaled(read.revisions), FAULTY_BLOCK)
-        cat = ["cat", str(dump.dump)]
-        runs = {
-            "": command(setup.words(PIPE), feeder=cat, status=REFUSED),
-            "beside": command(read.beside, feeder=cat, is_kept=True),
-        }
-        best = best_in_turns(runs, setup.times, is_met=partial(is_met, read.most))
-        ours, other = best[""].wall, best["beside"].wall
-        cells: list[Cell] = [dump.megabytes, ours, " ".join(read.beside[:2]), other, Limited(ours / other, read.most)]
-        yield [name, *cells, best[""].peak / 1e6]
-        dump.dump.unlink()
+def row(setup: Setup, name: str, read: Read) -> Row:
+    dump = generated(setup.folder / name, read.mix, setup.scaled(read.revisions), FAULTY_BLOCK)
+    cat = ["cat", str(dump.dump)]
+    runs = {
+        "beside": command(read.beside, feeder=cat, is_kept=True),
+        "": command(setup.words(PIPE), feeder=cat, status=REFUSED),
+        LOOP: loop(),
+    }
+    turns = in_turns(runs, setup.times, WALL, lambda turns: relative(turns, read.most).is_met)
+    seconds, beside = turns.costs, " ".join(read.beside[:2])
+    cells: list[Cell] = [dump.megabytes, seconds[""], beside, seconds["beside"], relative(turns, read.most)]
+    dump.dump.unlink()
+    return [name, *cells, turns.best("").peak / 1e6]
 
 
 def measured(setup: Setup) -> Tables:
     """Reading dumps from a pipe, beside `grep` and `wc`; nothing is built, for a last block is refused."""
     heading = "what is read | MB:.0f | seconds:.3f | beside it | seconds:.3f | relative:.2f | peak MB:.0f"
-    yield Table("reading", heading, list(rows(setup)))
+    yield Table("reading", heading, [row(setup, name, read) for name, read in READ.items()])

@@ -12,7 +12,7 @@ from functools import partial
 from pathlib import Path
 from typing import Callable, NamedTuple
 
-from bench.measure import LOOP, PROCESSOR, Setup, best_in_turns, loop, own_peak, slowness
+from bench.measure import LOOP, PROCESSOR, Setup, Turns, in_turns, loop, own_peak, slowness
 from bench.tables import Limited, Row, Table, Tables
 from dev import shapes
 from dev.running import Failed, Measured, measure
@@ -76,27 +76,12 @@ def questions(queries: Path) -> Iterator[list[str]]:
     yield from MORE
 
 
-def times_of(once: float, twice: float, slower: float) -> float:
-    return twice / max(once, LEAST * slower)
-
-
-def is_met(slower: float, costs: dict[Path, float]) -> bool:
-    once, twice = costs.values()
-    return times_of(once, twice, slower) <= MOST_TIMES and twice <= MOST_SECONDS * slower
-
-
 class Found(NamedTuple):
-    """The cost of a question about a shape in its size and in twice that."""
+    """The cost of a question about a shape in twice its size, and how many times that in its size this is."""
 
     words: str
-    once: Measured
     twice: Measured
-    # How much slower the machine is at the time than that for which limits are.
-    slower: float
-
-    @property
-    def times(self) -> float:
-        return times_of(self.once.processor, self.twice.processor, self.slower)
+    times: float
 
 
 def asked(setup: Setup, dump: Path, words: list[str]) -> Measured:
@@ -109,11 +94,19 @@ def asked(setup: Setup, dump: Path, words: list[str]) -> Measured:
 
 
 def found_of(setup: Setup, dumps: list[Path], words: list[str], slower: float) -> Found:
+    """Measure a question on a machine that is so much slower than that for which limits are."""
+    once, twice = dumps
+
+    def times(turns: Turns[Path]) -> float:
+        return turns.median(lambda seconds: seconds[twice] / max(seconds[once], LEAST * slower))
+
+    def is_met(turns: Turns[Path]) -> bool:
+        return times(turns) <= MOST_TIMES and turns.costs[twice] <= MOST_SECONDS * slower
+
     runs = {dump: partial(asked, setup, dump, words) for dump in dumps}
-    best = best_in_turns(runs, setup.times, PROCESSOR, partial(is_met, slower))
+    turns = in_turns(runs, setup.times, PROCESSOR, is_met)
     verb = " ".join([words[0], *(word for word in words if word.startswith("-"))])
-    once, twice = (best[dump] for dump in dumps)
-    return Found(verb, once, twice, slower)
+    return Found(verb, turns.best(twice), times(turns))
 
 
 def rows_of(setup: Setup, shape: Callable[[int], bytes], size: int) -> Iterator[Row]:
@@ -123,7 +116,7 @@ def rows_of(setup: Setup, shape: Callable[[int], bytes], size: int) -> Iterator[
         dumps.append(setup.folder / f"{shape.__name__}-{times}")
         dumps[-1].write_bytes(shape(size * times))
         asked(setup, dumps[-1], ["info"])
-    slower = slowness(best_in_turns({LOOP: loop()}, setup.times, PROCESSOR)[LOOP].processor)
+    slower = slowness(in_turns({LOOP: loop()}, setup.times, PROCESSOR).costs[LOOP])
     asked_about = [words for words in questions(queries) if (shape.__name__, words[0]) not in AS_THE_SQUARE]
     found = [found_of(setup, dumps, words, slower) for words in asked_about]
     name = shape.__name__.replace("_", " ")

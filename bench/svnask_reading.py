@@ -9,12 +9,11 @@ import os
 import shutil
 import subprocess
 from dataclasses import replace
-from functools import partial
 
 from bench.histories import RELEASES, Generated, Peg, generated
-from bench.measure import LOOP, PROCESSOR, Run, Setup, best_in_turns, command, loop, slowness
+from bench.measure import LOOP, PROCESSOR, Run, Setup, command, in_turns, loop, relative
 from bench.questions import line
-from bench.tables import Cell, Limited, Row, Table, Tables
+from bench.tables import Cell, Limited, Table, Tables
 from dev.running import Failed, Measured
 from dev.tree import EXAMPLES, ROOT
 
@@ -61,9 +60,11 @@ class Commands:
         return run
 
 
-def is_met(most: float, costs: dict[str, float]) -> bool:
-    beside, ours, *_ = costs.values()
-    return ours <= most * slowness(costs.get(LOOP, 0)) * beside
+def compared(times: int, runs: dict[str, Run], most: float) -> list[list[Cell]]:
+    """Return a row for each of two commands."""
+    turns = in_turns(runs, times, PROCESSOR, lambda turns: relative(turns, most).is_met)
+    (beside, less), (ours, more), *_ = turns.costs.items()
+    return [[beside, less, None, None], [ours, more, relative(turns, most), None]]
 
 
 def measured(setup: Setup) -> Tables:
@@ -75,20 +76,11 @@ def measured(setup: Setup) -> Tables:
     peak = asked.peak()
     lines = command(later, is_kept=True)().outcome.output.count(b"\nr")
     count = setup.scaled(LINES) // lines
-    pairs: list[dict[str, Run]] = [
-        # `grep` waits for memory, and a slow machine hardly slows it.
-        {GREP: grep, FIRST: asked.first, LOOP: loop()},
-        {ALONE: asked.alone(1), LATER: command(later)},
-        {MANY: asked.alone(count), MODULE: asked.module(count, lines)},
+    rows = [
+        *compared(setup.times, {GREP: grep, FIRST: asked.first, LOOP: loop()}, MOST_OF_GREP),
+        *compared(setup.times, {ALONE: asked.alone(1), LATER: command(later)}, MOST_OF_PROGRAM),
+        *compared(setup.times, {MANY: asked.alone(count), MODULE: asked.module(count, lines)}, MOST_OF_LINES),
     ]
-    rows: list[Row] = []
-    for runs, most in zip(pairs, (MOST_OF_GREP, MOST_OF_PROGRAM, MOST_OF_LINES)):
-        taken = best_in_turns(runs, setup.times, PROCESSOR, partial(is_met, most))
-        name, ours, *_ = runs
-        beside, our = taken[name], taken[ours]
-        most *= slowness(taken[LOOP].processor if LOOP in taken else 0)
-        memory: Cell = Limited(peak, MOST_MEGABYTES) if ours == FIRST else None
-        rows.append([name, beside.processor, None, None])
-        rows.append([ours, our.processor, Limited(our.processor / beside.processor, most), memory])
+    rows[1][-1] = Limited(peak, MOST_MEGABYTES)
     heading = "what runs | processor s:.3f | relative to the one above:.2f | peak MB of Python:.0f"
     yield Table("svnask-reading", heading, rows)

@@ -9,7 +9,7 @@ import math
 from collections.abc import Iterator
 
 from bench.histories import ADDITIONS, CHANGES, Generated, generated
-from bench.measure import Setup, command, walls
+from bench.measure import WALL, Setup, Turns, command, in_turns
 from bench.questions import Asked, ten_queries
 from bench.tables import Cell, Limited, Row, Table, Tables
 from dev.running import peak_of
@@ -23,10 +23,9 @@ HEADING = (
 )
 
 
-def is_met(seconds: dict[tuple[int, int], float]) -> bool:
-    """Return whether no history takes more than so many times as long as the one before it."""
-    alone = [taken for (_, workers), taken in sorted(seconds.items()) if workers == 1]
-    return all(after <= MOST_TIME * before for before, after in zip(alone, alone[1:]))
+def relative(turns: Turns[tuple[int, int]], size: int) -> Limited:
+    """Return how much longer a history takes than one of half its length."""
+    return Limited(turns.median(lambda seconds: seconds[size, 1] / seconds[size // 2, 1]), MOST_TIME)
 
 
 def rows(setup: Setup, name: str) -> Iterator[Row]:
@@ -40,8 +39,9 @@ def rows(setup: Setup, name: str) -> Iterator[Row]:
         for workers in (1, 4):
             runs[size, workers] = Asked(setup, history.dump, workers).run(lines[size], is_kept=True)
         runs[size, 0] = command(["grep", "-c", "^Node-path"], feeder=["cat", history.dump], is_kept=True)
-    seconds = walls(runs, setup.times, is_met)
-    before, lower = math.nan, math.nan
+    longer = [history.revisions for history in found[1:]]
+    turns = in_turns(runs, setup.times, WALL, lambda turns: all(relative(turns, size).is_met for size in longer))
+    seconds, lower = turns.costs, math.nan
     for history in found:
         size = history.revisions
         taken, grep = seconds[size, 1], seconds[size, 0]
@@ -49,9 +49,9 @@ def rows(setup: Setup, name: str) -> Iterator[Row]:
         cells: list[Cell] = [taken, seconds[size, 4], grep, taken / grep, None]
         memory: list[Cell] = [peak / 1e6, None, peak / (size * MIXES[name].records)]
         if history is not found[0]:
-            cells[-1], memory[1] = Limited(taken / before, MOST_TIME), Limited(peak / lower, MOST_MEMORY)
+            cells[-1], memory[1] = relative(turns, size), Limited(peak / lower, MOST_MEMORY)
         yield [name, size, history.megabytes, *cells, *memory]
-        before, lower = taken, peak
+        lower = peak
 
 
 def measured(setup: Setup) -> Tables:
