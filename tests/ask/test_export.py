@@ -24,6 +24,14 @@ SELECT path, 'history' FROM in_history JOIN branch ON id = branch WHERE revision
 SELECT path, CASE is_recorded WHEN 1 THEN 'recorded' ELSE 'merged' END FROM in_merge JOIN branch ON id = branch
 WHERE in_merge.revision = ?1 AND is_alive
 """
+# Questions in SQL, beside those of the page.
+QUESTIONS = (
+    "SELECT author, changes FROM author_of_file WHERE path = '/trunk/dir/in'",
+    "SELECT number FROM revision WHERE author = 'bob' AND message LIKE '%merge%'",
+    "SELECT author, min(number), max(number) FROM revision WHERE number GROUP BY author",
+    "SELECT path, max(revision) FROM branch JOIN branch_revision ON id = branch GROUP BY id",
+    "SELECT path FROM branch WHERE from_path = '/trunk' AND from_revision < 5",
+)
 
 
 def rows(path: Path, question: str, *values: Any) -> list[tuple[Any, ...]]:
@@ -75,7 +83,7 @@ class Exported(base.Case):
         question = "SELECT number, author, message FROM revision WHERE number ORDER BY 1 DESC"
         self.assertEqual(rows(path, question), messages)
 
-    def test_the_questions_of_the_page(self) -> None:
+    def test_questions_of_the_page_and_others(self) -> None:
         dump = base.dump_of("merges")
         path = self.exported(dump)
         lanes = {each["lane"]: each["lives"][-1]["path"] for each in base.objects(dump, "graph") if "lives" in each}
@@ -85,6 +93,8 @@ class Exported(base.Case):
             [(each["path"],) for each in base.objects(dump, "contains", "5") if each["how"] == "history"],
             [(lanes[each["lane"]], each["revision"]) for each in merges if 5 in each["merged"] and not each["lost"]],
             list(Counter(each["path"] for each in base.objects(dump, "unmerged")).items()),
+            [(each["revision"], lanes[each["lane"]]) for each in merges if each["is_record_only"]],
+            [(13, each["value"]) for each in base.objects(dump, "propget", "svn:mergeinfo", "branches/two@14")],
             list(Counter(each["author"] for each in base.objects(dump, "log", "trunk/dir/in")).items()),
             [(each["revision"],) for each in base.objects(dump, *"log --search bob --search-and merge".split())],
             [
@@ -94,10 +104,9 @@ class Exported(base.Case):
             ],
             [(each["path"], each["last_change"]) for each in listed],
             [(each["path"],) for each in listed if each.get("from", {"revision": 5})["revision"] < 5],
-            [(each["revision"], lanes[each["lane"]]) for each in merges if each["is_record_only"]],
-            [(13, each["value"]) for each in base.objects(dump, "propget", "svn:mergeinfo", "branches/two@14")],
         ]
-        asked = re.findall(r'^\$ sqlite3 merges\.db "(.*)"$', (DOCS / "svnask.md").read_text(), re.MULTILINE)
+        of_page = re.findall(r'^\$ sqlite3 merges\.db "(.*)"$', (DOCS / "svnask.md").read_text(), re.MULTILINE)
+        asked = [*of_page, *QUESTIONS]
         self.assertEqual(len(asked), len(wanted))
         for question, each in zip(asked, wanted):
             self.assertEqual(sorted(rows(path, question)), sorted(each), question)
