@@ -73,6 +73,8 @@ class Damage(base.Case):
             lambda history: list(history.records(5, 5)),
             lambda history: history.tree,
             lambda history: list(history.blocks()),
+            lambda history: history.text(3, 6),
+            lambda history: list(history.revisions_beyond(b"/trunk", 3, 6)),
         )
         for read in reads:
             with History.open(str(dump)) as history:

@@ -147,8 +147,13 @@ class Store:
         return self.index.revisions[following] if following < len(self.index.revisions) else self.index.length
 
     def _check(self, rev: int) -> None:
+        """Raise `Damaged` where a revision has not the bytes that were written."""
         if self._sum(self.index.revisions[rev], self._end(rev)) != self.index.sums[rev + 1]:
             raise Damaged
+
+    def _check_range(self, first: int, last: int) -> None:
+        for rev in range(first, last + 1):
+            self._check(rev)
 
     def share(self) -> None:
         """Count one more user, who closes it, too."""
@@ -206,6 +211,7 @@ class Store:
 
     def text(self, first: int, last: int) -> bytes:
         """The bytes of revisions."""
+        self._check_range(first, last)
         return self.between(self.index.revisions[first], self._end(last))
 
     def with_properties(self, rev: int, section: bytes) -> bytes:
@@ -241,6 +247,7 @@ class Store:
     ) -> Iterator[int]:
         """Yield the revisions of a range in whose bytes a pattern is found, rising, but for a text that begins with one
         of others. A message may have it, too."""
+        self._check_range(first, last)
         newest = -1
         for part, begin, end in self._pieces(self.index.revisions[first], self._end(last)):
             before = self.index.kept.base if part is self.later else 0
