@@ -11,8 +11,9 @@ from svnask.merged_log import selection
 from svnask.merged_log.parts import MergedPart, hash_of, in_hash_order, parts_of_mergeinfo
 from svnask.merged_log.selection import Walked, Walker, items_of
 from svnask.merges.value_changes import PathRanges
+from svnask.paths import is_at_or_below
 from tests.ask import base
-from tests.ask.drawn_repositories import synchronized
+from tests.ask.drawn_repositories import drawn, synchronized
 
 TRUNK, ALL = Target(b"/trunk", 29), Options()
 
@@ -108,6 +109,17 @@ class MergedLog(base.Case):
                 self.assertEqual(list(one_by_one), whole)
 
         self.drawn(5, synchronized, check)
+
+    def check_beyond(self, dump: Path) -> None:
+        """Compare the revisions that may have changed a path that is not below another one with their changed paths."""
+        history = self.history(dump)
+        changed_in = {rev: {change.path for change in history.changes(rev)} for rev in range(2, history.head)}
+        for top in set().union(*changed_in.values()):
+            beyond = [rev for rev, paths in changed_in.items() if not all(is_at_or_below(path, top) for path in paths)]
+            self.assertEqual([*history.revisions_beyond(top, 2, history.head - 1)], beyond, top)
+
+    def test_revisions_that_changed_something_elsewhere(self) -> None:
+        self.drawn(60, drawn, self.check_beyond)
 
     def test_what_svn_does_not_end_with_is_refused(self) -> None:
         dump = self.made(
