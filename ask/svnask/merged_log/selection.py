@@ -83,7 +83,8 @@ class Walker:
         # The revisions that were sent as merged ones, and those that were left out since the last one that was sent.
         self._sent: set[int] = set()
         self._left_out: list[int] = []
-        self._beyond = lru_cache(64)(self._find_beyond)
+        # Walks of a few revisions each come back to all parts of a history.
+        self._beyond = lru_cache(1024)(self._find_beyond)
         # Subversion keeps this for a falling range alone.
         self._searched: Walked | None = None
         # In how many revisions that were sent what is sent now was merged, for a server, which sends no other ends.
