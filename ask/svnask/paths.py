@@ -73,3 +73,14 @@ def split_peg(text: str) -> tuple[str, str]:
     folder, slash, name = text.rpartition("/")
     front, sign, peg = name.rpartition("@")
     return (folder + slash + front, peg) if sign else (text, "")
+
+
+def with_peg(path: str, rev: int | None = None) -> str:
+    """Return the text that names a path, with a peg revision where one is given.
+
+    >>> with_peg("/rel@4"), with_peg("/rel@4", 7), with_peg("/rel")
+    ('/rel@4@', '/rel@4@7', '/rel')
+    """
+    if rev is not None:
+        return f"{path}@{rev}"
+    return path + "@" * ("@" in path.rpartition("/")[2])

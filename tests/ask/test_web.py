@@ -36,10 +36,12 @@ from tests.ask.questions import ALL
 if TYPE_CHECKING:
     from svnask.web import asked, hosts
     from svnask.web import path as path_page
-    from svnask.web import renewed, wsgi
+    from svnask.web import renewed
+    from svnask.web import words as page_words
+    from svnask.web import wsgi
 else:
-    names = ("asked", "hosts", "path", "renewed", "wsgi")
-    asked, hosts, path_page, renewed, wsgi = (Lazy(f"svnask.web.{name}") for name in names)
+    names = ("asked", "hosts", "path", "renewed", "words", "wsgi")
+    asked, hosts, path_page, renewed, page_words, wsgi = (Lazy(f"svnask.web.{name}") for name in names)
 
 ADDRESS = "127.0.0.1:8080"
 LACKING = [name for name in web.NEEDED if importlib.util.find_spec(name) is None]
@@ -71,6 +73,8 @@ class Reader(HTMLParser):
         self.elements: list[str] = []
         self.attributes: list[str] = []
         self.links: list[str] = []
+        self.choices: list[str] = []
+        self.commands: list[str] = []
         self.rows: list[list[str]] = []
         self._open: list[str] = []
         self.feed(text)
@@ -80,6 +84,7 @@ class Reader(HTMLParser):
         self.elements.append(tag)
         self.attributes += [name for name, _ in attrs]
         self.links += [value or "" for name, value in attrs if name in ("href", "src", "action")]
+        self.choices += [value or "" for name, value in attrs if (tag, name) == ("option", "value")]
         if tag == "tr":
             self.rows.append([])
         if tag in ("td", "th"):
@@ -91,6 +96,8 @@ class Reader(HTMLParser):
             pass
 
     def handle_data(self, data: str) -> None:
+        if self._open[-1:] == ["pre"] and data.startswith("svnask "):
+            self.commands.append(data)
         if self.rows and self.rows[-1] and {"td", "th"} & set(self._open):
             self.rows[-1][-1] += data
 
@@ -324,6 +331,71 @@ class Web(base.Case):
                     if link.startswith("/") and link not in seen:
                         seen.add(link)
                         left.append(link)
+
+    def words_of(self, line: str) -> list[str]:
+        """Return the words that a shell makes of a command line, without the first one."""
+        done = subprocess.run(["bash", "-c", f"svnask() {{ printf '%s\\0' \"$@\"; }}; {line}"], stdout=-1, check=True)
+        return [word.decode("utf-8", "surrogateescape") for word in done.stdout.split(b"\0")[:-1]]
+
+    def check_commands(self, opened: wsgi.Application, address: str) -> None:
+        """Check that each command on a page has an answer, the same as that of the address beside it."""
+        page = Reader(self.got(opened, address).text)
+        for line in page.commands:
+            done = base.called(*self.words_of(line))
+            self.assertIn(done.status, (0, 1 if "check-mergeinfo" in line else 0), (line, done.said))
+
+    def test_names_that_are_not_shown(self) -> None:
+        """Names with a peg, with a blank at the end, or with what no page shows."""
+        names = ["rel", "rel@4", "rel@", "end ", " a'b\\", "\u202ea", "\u2066", "\x85", "a\x01", "a\rb", "\udcff", "é"]
+        made = [copied(b"branches/" + base.as_bytes(name), b"trunk", 1) for name in names]
+        first = [added(b"trunk"), added(b"branches"), added(b"trunk/f", b"file")]
+        steps = enumerate((first, made, [changed(b"trunk/f")]), 1)
+        dump = self.made("dump", bytes(Dump([Revision(0), *(Revision(rev, nodes) for rev, nodes in steps)])))
+        opened = self.opened(dump)
+        choices = Reader(self.got(opened, "/compare").text).choices
+        self.assertEqual(len(choices), len(names) + 1)
+        paths = {base.objects(dump, "segments", page_words.chosen(each))[0]["path"] for each in choices}
+        self.assertEqual(paths, {"/trunk", *(f"/branches/{name}" for name in names)})
+        compared = [link for link in Reader(self.got(opened, "/").text).links if "/compare?" in link]
+        self.assertEqual(len(set(compared)), len(names))
+        for address in (*compared, *(f"/compare?{urlencode({'from': 'trunk', 'to': each})}" for each in choices)):
+            got = self.got(opened, address)
+            # Each of them lacks the last revision.
+            self.assertEqual((got.status, got.text.count("Nothing is left.")), (200, 1 + ("trunk" in address[-5:])))
+            self.check_commands(opened, address)
+        for name in names:
+            self.check_commands(opened, f"/path/branches/{quote(base.as_bytes(name))}")
+
+    def test_a_path_deleted_in_a_copy(self) -> None:
+        links = Reader(self.got(self.opened(base.dump_of("copies")), "/revision/13").text).links
+        self.check_links("copies", [link for link in links if link.startswith("/path")])
+
+    def check_links(self, name: str, links: list[str]) -> None:
+        opened = self.opened(base.dump_of(name))
+        self.assertTrue(links)
+        for link in links:
+            self.assertEqual(self.got(opened, link).status, 200, link)
+
+    def test_long_lists_come_by_pages(self) -> None:
+        paths = [b"trunk/%04d" % number for number in range(2500)]
+        nodes = [added(b"trunk"), *(added(path, b"file") for path in paths)]
+        opened = self.opened(self.made("dump", bytes(Dump([Revision(0), Revision(1, nodes)]))))
+        for begin, part in (("/path/trunk", "names="), ("/revision/1", "after=")):
+            found: list[str] = []
+            address: str | None = begin
+            while address is not None:
+                page = Reader(self.got(opened, address.partition("#")[0]).text)
+                found += [link for link in page.links if link.startswith("/path/trunk/")]
+                later = [link for link in page.links if part in link]
+                address = later[-1] if len(found) < len(paths) else None
+            self.assertEqual(found, [f"/path/{path.decode()}?rev=1" for path in paths])
+
+    def test_a_path_with_a_long_address(self) -> None:
+        name = b"\xc3\xa9" * 5000
+        dump = self.made("dump", bytes(Dump([Revision(0), Revision(1, [added(b"trunk"), added(b"trunk/" + name)])])))
+        opened = self.opened(dump)
+        links = [link for link in Reader(self.got(opened, "/path/trunk").text).links if "%" in link]
+        self.assertEqual([self.got(opened, link).status for link in links if link.startswith("/path")], [200])
 
     def test_pages_below_another_path(self) -> None:
         opened = self.opened(base.dump_of("branches"))

@@ -548,6 +548,17 @@ class OpenHistory:
         below = (top[1:] + b"/", top[1:] + b"\n")
         return self._store.revisions_with(copied_changes.PATH_OF_RECORD, first, last, below)
 
+    def places_of_changes(self, rev: int, changes: Iterable[Change]) -> list[Place]:
+        """Return where each of some changed paths of a revision is. What was deleted was there before.
+
+        >>> history.places_of_changes(8, history.changes(8))
+        [(b'/branches/one', 7)]
+        """
+        asked = list(changes)
+        has_deleted = any(change.letter == "D" for change in asked)
+        made = copied_changes.Made(self.records(rev, rev) if has_deleted else ())
+        return [copied_changes.place_of_change(change, rev, made) for change in asked]
+
     def find_kinds(self, revs: Iterable[int]) -> None:
         """Complete the kinds in `changes` of these revisions. No record of a deletion has one.
 
@@ -559,10 +570,9 @@ class OpenHistory:
         asked, without_kind = set(revs), copied_changes.WITHOUT_KIND
         for rev in self._store.revisions_with(without_kind, min(asked), max(asked)) if asked else ():
             if rev in asked and without_kind.search(self._store.blocks_of(rev)):
-                found = [(at, change) for at, change in enumerate(self.changes(rev)) if change.kind is None]
-                has_deleted = any(change.letter == "D" for _, change in found)
-                made = copied_changes.Made(self.records(rev, rev) if has_deleted else ())
-                lacking += [(rev, at, copied_changes.place_of_change(change, rev, made)) for at, change in found]
+                found = {at: change for at, change in enumerate(self.changes(rev)) if change.kind is None}
+                places = self.places_of_changes(rev, found.values())
+                lacking += [(rev, at, place) for at, place in zip(found, places)]
         if lacking:
             kinds = self.kinds(place for *_, place in lacking)
             for rev, at, place in lacking:

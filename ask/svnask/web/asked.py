@@ -1,7 +1,6 @@
 """The answers of verbs to the queries of addresses: `path=trunk&limit=5` is `--limit=5 trunk`."""
 from __future__ import annotations
 
-import shlex
 import time
 from argparse import SUPPRESS, Action, Namespace
 from collections.abc import Callable, Iterator, Mapping, Sequence
@@ -15,6 +14,7 @@ from svnask.asking.verbs import verb_named
 from svnask.errors import Unsound, Usage
 from svnask.history.open_history import OpenHistory
 from svnask.web.renewed import KeptAnswer, KeptAnswers
+from svnask.web.words import quoted
 
 # The verbs that only read a history.
 VERBS = tuple(
@@ -136,7 +136,8 @@ class Asked:
 
         return made
 
-    def command(self, *words: str) -> str:
+    def command(self, verb: str, *options: str, targets: Sequence[str] = ()) -> str:
         """Return the command line that says the same as a page."""
         named = [self.source, *["--below", self._given.below] * bool(self._given.below)]
-        return shlex.join(["svnask", *named, *words])
+        end = ["--"] * any(each.startswith("-") for each in targets)
+        return " ".join(map(quoted, ["svnask", *named, verb, *options, *end, *targets]))

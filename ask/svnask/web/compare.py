@@ -4,9 +4,11 @@ from __future__ import annotations
 from itertools import islice
 
 from svnask.errors import Denied
+from svnask.paths import with_peg
 from svnask.web.asked import Asked
 from svnask.web.request import Request
 from svnask.web.site import Page, address
+from svnask.web.words import chosen
 
 NEEDED = ("from", "to")
 # How many revisions a table has.
@@ -15,33 +17,32 @@ MOST = 200
 
 def compare(asked: Asked, request: Request) -> Page:
     """Return what the second one has and the first one lacks, and what can still be merged."""
-    before, after = (request.value(name).strip() for name in NEEDED)
+    before, after = (chosen(request.value(name)) for name in NEEDED)
     names = asked.kept("names", names_of_today, patience=None)
     values: dict[str, object] = {"before": before, "after": after, "names": names, "is_asked": bool(before and after)}
     if not (before and after):
         return Page("compare.html", "Compare", [], [], values)
-    words = ["new", before, after]
     of_notes = {"from_": before, "to": after}
     root = request.root
+    ways = ((after, before), (before, after))
     values.update(
         notes_of_release=list(islice(asked.objects("new", "--", before, after), MOST + 1)),
         most=MOST,
         markdown=address(f"{root}/text/new", **of_notes, markdown="1"),
         csv=address(f"{root}/csv/new", **of_notes),
-        directions=[
-            (source, target, *eligible(asked, source, target)) for source, target in ((after, before), (before, after))
-        ],
+        directions=[(source, target, *eligible(asked, source, target)) for source, target in ways],
         diagram=diagram_of(asked, before, after),
         swapped=address(f"{root}/compare", from_=after, to=before),
     )
+    of_merges = {"show_revs": "eligible", "log": "1"}
     commands = [
-        asked.command(*words),
-        asked.command("mergeinfo", "--show-revs=eligible", "--log", after, before),
-        asked.command("mergeinfo", before, after),
+        asked.command("new", targets=(before, after)),
+        *(asked.command("mergeinfo", "--show-revs=eligible", "--log", targets=way) for way in ways),
+        asked.command("mergeinfo", targets=(before, after)),
     ]
     addresses = [
         address(f"{root}/api/new", **of_notes),
-        address(f"{root}/api/mergeinfo", show_revs="eligible", log="1", path=after, target=before),
+        *(address(f"{root}/api/mergeinfo", **of_merges, path=source, target=target) for source, target in ways),
         address(f"{root}/api/mergeinfo", path=before, target=after),
     ]
     return Page("compare.html", f"{before} and {after}", commands, addresses, values)
@@ -49,7 +50,7 @@ def compare(asked: Asked, request: Request) -> Page:
 
 def names_of_today(asked: Asked) -> list[str]:
     """Return the branches and tags that can be chosen."""
-    return sorted({row["path"] for row in asked.objects("branches") if row["is_alive"]})
+    return [with_peg(path) for path in sorted({row["path"] for row in asked.objects("branches") if row["is_alive"]})]
 
 
 def eligible(asked: Asked, source: str, target: str) -> tuple[list[dict[str, object]], str]:

@@ -6,6 +6,7 @@ from typing import NamedTuple
 
 from markupsafe import Markup
 from svnask.asking.verb import Object
+from svnask.paths import with_peg
 from svnask.picture.graph import Graph
 from svnask.picture.options import HEIGHT, drawn_of
 from svnask.picture.svg import svg_of
@@ -31,7 +32,9 @@ def overview(asked: Asked, request: Request) -> Page:
     left = None if picture is None else picture.left
     values = {
         "projects": None if rows is None else by_project(rows),
-        "compared": lambda row, trunk: address(f"{request.root}/compare", from_=trunk, to=row["path"]),
+        "compared": lambda row, trunk: address(
+            f"{request.root}/compare", from_=with_peg(trunk), to=with_peg(row["path"])
+        ),
         "picture": picture and picture.svg,
         "chosen": of_picture,
         "height": HEIGHT,

@@ -1,14 +1,16 @@
 """The page of a path in a revision: its log, where it was, what became of it, and its mergeinfo."""
 from __future__ import annotations
 
+import bisect
 import re
 from collections.abc import Iterable, Iterator
+from itertools import islice
 from urllib.parse import quote
 
 from svnask.asking.verb import Object
 from svnask.errors import Denied
 from svnask.history.targets import Target, known, revision_of
-from svnask.paths import joined
+from svnask.paths import joined, with_peg
 from svnask.texts import decoded, encoded
 from svnask.web.asked import Asked
 from svnask.web.request import Request
@@ -22,7 +24,7 @@ RUN = re.compile(r"([0-9]+)(?:-([0-9]+))?(\*?)")
 def path(asked: Asked, request: Request) -> Page:
     """Return what is known of a path in the revision that a query names, or else in the youngest one."""
     place = place_asked(asked, request)
-    target = f"{decoded(place.path)}@{place.rev}"
+    target = with_peg(decoded(place.path), place.rev)
     # Where it was comes first: it says whether there is such a path.
     segments = list(asked.objects("segments", "--", target))
     is_old = place.rev < asked.history.head
@@ -33,15 +35,15 @@ def path(asked: Asked, request: Request) -> Page:
         "segments": segments,
         "heirs": list(asked.objects("heirs", "--", target)) if is_old else [],
         "mergeinfo": list(sources_in_words(asked, target)),
-        "names": names_below(asked, place),
+        **page_of_names(asked, request, place),
     }
     words = words_of_log(request)
     values.update(page_of_log(asked, request, place, [*words, "--", target]))
     others = ("segments", *["heirs"] * is_old, "mergeinfo")
     # A limit counts revisions before they are searched.
     limit = None if request.value("search") else MOST
-    commands = [asked.command("log", *[f"--limit={limit}"] * bool(limit), *words, target)]
-    commands += [asked.command(verb, target) for verb in others]
+    commands = [asked.command("log", *[f"--limit={limit}"] * bool(limit), *words, targets=[target])]
+    commands += [asked.command(verb, targets=[target]) for verb in others]
     addresses = [address_of_log(request, target, limit)]
     addresses += [address(f"{request.root}/api/{verb}", path=target) for verb in others]
     return Page("path.html", target, commands, addresses, values)
@@ -133,13 +135,19 @@ def in_words(ranges: str) -> str:
     return ", ".join(found)
 
 
-def names_below(asked: Asked, place: Target) -> list[str]:
-    """Return the names of what is in a directory, as many as a page has."""
+def page_of_names(asked: Asked, request: Request, place: Target) -> dict[str, object]:
+    """Return the names of what is in a directory from the one that a query names, with the address of those after them."""
+    first = encoded(request.value("names"))
+    found = list(islice(names_below(asked, place, first), MOST_NAMES + 1))
+    front = f"{request.root}/path{quote(place.path)}"
+    after = address(front, rev=place.rev, names=decoded(found[MOST_NAMES])) if len(found) > MOST_NAMES else None
+    return {"names": list(map(decoded, found[:MOST_NAMES])), "names_after": after, "has_first": not first}
+
+
+def names_below(asked: Asked, place: Target, first: bytes) -> Iterator[bytes]:
+    """Yield the names of what is in a directory, in their order from the first one."""
     tree = asked.history.tree
-    found: list[str] = []
-    for name in sorted(tree.names(place.path)):
+    names = sorted(tree.names(place.path))
+    for name in names[bisect.bisect_left(names, first) :]:
         if tree.exists(joined(place.path, name), place.rev):
-            found.append(decoded(name))
-            if len(found) == MOST_NAMES:
-                break
-    return found
+            yield name

@@ -8,7 +8,7 @@ from urllib.parse import parse_qs
 from svnask.errors import Usage
 
 # How many values a query may have, and how long an address may be.
-MOST_VALUES, LONGEST = 200, 1 << 14
+MOST_VALUES, LONGEST = 200, 1 << 17
 HTML, TEXT, JSON, CSV = "text/html", "text/plain", "application/x-ndjson", "text/csv"
 METHODS = ("GET", "HEAD")
 Environ = dict[str, Any]

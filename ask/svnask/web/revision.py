@@ -5,6 +5,8 @@ import bisect
 from collections.abc import Sequence
 from typing import NamedTuple
 
+from svnask.asking.verb import Object
+from svnask.digits import number
 from svnask.picture.graph import Graph, LaneMerge
 from svnask.texts import decoded
 from svnask.web.asked import Asked
@@ -37,8 +39,7 @@ def revision(asked: Asked, request: Request) -> Page:
     values = {
         "rev": rev,
         "found": found,
-        "changes": found["changes"][:MOST_PATHS],
-        "more": max(len(found["changes"]) - MOST_PATHS, 0),
+        **page_of_changes(asked, request, found),
         "holders": list(asked.objects("contains", "--", str(rev))) if rev else [],
         "merged_here": here,
         "merged_there": there,
@@ -46,6 +47,27 @@ def revision(asked: Asked, request: Request) -> Page:
     commands = [asked.command("show", str(rev)), asked.command("contains", str(rev)), asked.command("graph")]
     addresses = [address(f"{request.root}/api/{verb}", rev=rev) for verb in ("show", "contains")]
     return Page("revision.html", f"r{rev}", commands, addresses, values)
+
+
+def page_of_changes(asked: Asked, request: Request, found: Object) -> dict[str, object]:
+    """Return the changed paths of a revision after as many as a query says, each with where it is, and the addresses of
+    those before and after them."""
+    rev, count = found["revision"], len(found["changes"])
+    text = request.value("after")
+    begin = min(number(text), count) if text.isdecimal() and text.isascii() else 0
+    shown = slice(begin, begin + MOST_PATHS)
+    places = asked.history.places_of_changes(rev, asked.history.changes(rev)[shown])
+
+    def page_after(place: int) -> str:
+        return address(f"{request.root}/revision/{rev}", after=place or None) + "#paths"
+
+    return {
+        "changes": zip(found["changes"][shown], [(decoded(path), at) for path, at in places]),
+        "first": begin + 1,
+        "last": min(begin + MOST_PATHS, count),
+        "before_these": page_after(max(begin - MOST_PATHS, 0)) if begin else None,
+        "after_these": page_after(begin + MOST_PATHS) if begin + MOST_PATHS < count else None,
+    }
 
 
 def merges_at(graph: Graph, rev: int) -> tuple[list[Arrow], list[Arrow]]:

@@ -8,13 +8,18 @@ from urllib.parse import quote, urlencode
 
 from jinja2 import Environment, PackageLoader
 from markupsafe import Markup
+from svnask.engine.queries import is_askable
 from svnask.links import Links
 from svnask.texts import DIRECTIONS, encoded, escaped
+from svnask.web.request import LONGEST
+from svnask.web.words import choice
 
 # What a page does not show as it is: control characters but for newlines and tabs.
 CONTROL = re.compile("[\x00-\x08\x0b-\x1f\x7f-\x9f\ufffe\uffff]")
 # So many components of a date are shown: the day and the minute.
 MINUTE = len("2024-01-01T00:00")
+# How much of an address may follow a path.
+REST = 1 << 10
 
 
 class Page(NamedTuple):
@@ -37,8 +42,11 @@ class OwnLinks(Links):
     def of_revision(self, rev: int) -> str:
         return f"{self._root}/revision/{rev}"
 
-    def of_path(self, path: bytes, rev: int) -> str:
-        return f"{self._root}/path{quote(path)}?rev={rev}"
+    def of_path(self, path: bytes, rev: int) -> str | None:
+        """Return the address of the page of a path, if it has one."""
+        named = quote(path)
+        has_page = is_askable(path) and len(named) < LONGEST - REST
+        return f"{self._root}/path{named}?rev={rev}" if has_page else None
 
 
 def printable(value: Any) -> Any:
@@ -71,7 +79,7 @@ def quantity(number: int, name: str) -> str:
 def address(front: str, **values: str | int | None) -> str:
     """Return an address with those values of its query that are given."""
     chosen = {name.rstrip("_").replace("_", "-"): value for name, value in values.items() if value is not None}
-    return front + ("?" + urlencode(chosen, errors="surrogateescape") if chosen else "")
+    return front + ("?" + urlencode(chosen, safe="/", errors="surrogateescape") if chosen else "")
 
 
 class Site:
@@ -86,7 +94,7 @@ class Site:
             trim_blocks=True,
             lstrip_blocks=True,
         )
-        self._made.filters.update(minute=minute, first_line=first_line_of, counted=quantity)
+        self._made.filters.update(minute=minute, first_line=first_line_of, counted=quantity, choice=choice)
 
     def rendered(self, page: Page, head: int, notes: list[str], root: str, is_waiting: bool = False) -> bytes:
         """Return the bytes of a page about a history up to a revision."""
