@@ -142,7 +142,7 @@ class Words(CompletionTest):
         self.assertEqual(self.words(DUMP, "propget", ""), ["svn:mergeinfo"])
 
     def test_urls(self) -> None:
-        first = ["log", "mergeinfo", "sources"]
+        first = ["log", "mergeinfo", "new", "sources"]
         self.assertEqual(self.words(""), [ROOT_URL, *first])
         self.assertEqual(self.words("ht"), [ROOT_URL])
         self.assertEqual(self.words("l"), ["log"])

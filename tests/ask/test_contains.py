@@ -62,6 +62,17 @@ class Contains(base.Case):
         self.assertEqual((done.status, done.said), (1, "svnask: E160006: No such revision 20\n"))
         self.assertRaises(Denied, self.history(dump).contains, 5, [b"/trunk"], 20)
 
+    def test_revisions_may_be_named_as_for_a_log(self) -> None:
+        dump = base.dump_of("merges")
+        for named, words in (("3,5", "3 5"), ("r3-5,9", "3 4 5 9"), ("9-7", "-r 7:9"), ("5,", "")):
+            done = base.called(dump, "contains", named, "trunk")
+            if words:
+                self.assertEqual(done.output, self.asked(dump, "contains", *words.split(), "trunk"))
+            else:
+                self.assertEqual(done.status, 1)
+        self.check_unanswered(1, "svnask: E205000: There is no change 0", dump, "contains", "0-3")
+        self.check_unanswered(1, "'contains --search BUG-103' is about revisions", dump, "contains", "BUG-103")
+
     def test_an_at_sign_before_another_word_is_a_part_of_a_name(self) -> None:
         dump = self.made("dump", dump_of([added(b"a@b"), added(b"a@1")]))
         done = base.called(dump, "contains", "1", "a@b", "a@1@")

@@ -86,6 +86,21 @@ class Log(base.Case):
                 self.assertTrue(second.startswith(f"svnask: {wanted}"), second)
         self.assertEqual(base.called(base.dump_of("branches"), "log", "none").said.count("\n"), 1)
 
+    def test_a_path_that_is_not_there_is_told_with_names_that_come_near(self) -> None:
+        dump = base.dump_of("branches")
+        rows = (
+            ("", "1.0", "'/tags/one-1.0'"),
+            ("", "one-1.0", "'/tags/one-1.0'"),
+            ("", "Tags/one-1.0", "'/tags/one-1.0'"),
+            ("", "tags/one-1.1", "'/tags/one-1.0'"),
+            ("", "trunk/LIB/util.c", "'/trunk/lib/util.c'"),
+            ("branches/one-again", "trunk", "'^/trunk'"),
+        )
+        for below, path, wanted in rows:
+            for words in (["log", path], ["new", path, "^/trunk"], ["where", path, "3"]):
+                done = base.called(dump, *["--below", below] * bool(below), *words)
+                self.assertEqual(done.said.splitlines()[1:], [f"svnask: is {wanted} meant?"], (below, words))
+
     def test_options_that_come_after_a_url(self) -> None:
         dump = base.dump_of("branches")
         whole = base.called(dump, "log", "trunk").output

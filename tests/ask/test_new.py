@@ -59,6 +59,28 @@ class New(base.Case):
         self.drawn(4, synchronized, self.check)
 
 
+class Lines(base.Case):
+    def test_what_was_only_recorded_is_marked(self) -> None:
+        words = (base.dump_of("projects"), "new", "alpha/trunk@2", "alpha/branches/two", "--all")
+        lines = {"r%d" % each["revision"]: each["how"] for each in base.objects(*words)}
+        self.assertIn("recorded", lines.values())
+        for line in self.asked(*words).decode().splitlines():
+            rev, *_, last = line.split("\t")
+            self.assertEqual(last == "recorded", lines[rev] == "recorded", line)
+        marked = [
+            line.partition(" ")[0]
+            for line in self.asked(*words, "--markdown").decode().split("- ")
+            if "recorded)" in line
+        ]
+        self.assertEqual(marked, [rev for rev, how in lines.items() if how == "recorded"])
+
+    def test_a_revision_without_a_message(self) -> None:
+        nodes = ([added(b"trunk"), added(b"empty")], [added(b"trunk/f", FILE)])
+        revisions = [Revision(rev, each, base.named(rev, "")) for rev, each in enumerate(nodes, 1)]
+        dump = self.made("dump", bytes(Dump([Revision(0), *revisions])))
+        self.assertEqual(self.asked(dump, "new", "empty", "trunk", "--markdown"), b"- r2 (alice)\n")
+
+
 class Threads(base.Case):
     def test_threads_that_look_at_the_same_revisions(self) -> None:
         lot = Random(1)

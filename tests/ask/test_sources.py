@@ -86,6 +86,12 @@ class Words(Case):
             else:
                 self.assertEqual(self.asked(*words.split()), self.asked(*place), words)
 
+    def test_targets_of_release_notes_by_urls(self) -> None:
+        made = self.repository()
+        found = self.asked("new", f"{made.url}/trunk@5", f"{made.url}/branches/two")
+        self.assertEqual(found, self.asked(base.dump_of("branches"), "new", "trunk@5", "branches/two"))
+        self.assertTrue(found)
+
     def test_what_is_gone_is_found_by_what_is_above_it(self) -> None:
         made = self.repository()
         for _ in range(2):

@@ -30,8 +30,8 @@ VALUED = frozenset(
 # Those that take one only after an equals sign.
 OPTIONAL = frozenset(("--ahead-behind",))
 NUMBER = re.compile("-[0-9]")
-# The verbs that svn has, too, and the one that is about all sources.
-OF_SVN, OF_ALL = ("log", "mergeinfo"), "sources"
+# The verbs whose targets may be URLs in place of a source, and the one that is about all sources.
+WITH_URLS, OF_ALL = ("log", "mergeinfo", "new"), "sources"
 
 
 def joined_options(arguments: Iterable[str]) -> list[str]:
@@ -73,7 +73,7 @@ def places(words: list[str]) -> list[int]:
 
 
 def with_source(words: list[str], verbs: Iterable[str]) -> list[str]:
-    """The words with a source before the verb: that of the first URL where they are those of svn, and the standard input
+    """The words with a source before the verb: that of the first URL where targets may be URLs, and the standard input
     where none is asked."""
     found = places(words)
     plain = [words[at] for at in found]
@@ -82,7 +82,7 @@ def with_source(words: list[str], verbs: Iterable[str]) -> list[str]:
     if plain == [OF_ALL] or plain == words[:1] and plain[0] in verbs and words[1:] in (["-h"], ["--help"]):
         return [*words[: found[0]], "-", *words[found[0] :]]
     urls = [word for word in plain[1:] if IS_URL.match(word)]
-    if not urls or plain[0] not in OF_SVN:
+    if not urls or plain[0] not in WITH_URLS:
         return words
     return [*words[: found[0]], split_peg(urls[0])[0], *words[found[0] :]]
 

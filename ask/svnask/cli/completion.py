@@ -23,7 +23,7 @@ from typing import NamedTuple
 
 from svnask.asking.parser import parser, parser_of_verb
 from svnask.asking.verbs import HELP
-from svnask.asking.words import OF_ALL, OF_SVN, is_option, joined_options
+from svnask.asking.words import OF_ALL, WITH_URLS, is_option, joined_options
 from svnask.copy.branch_names import kept_branches
 from svnask.copy.index import Front
 from svnask.files import cache_folder
@@ -127,7 +127,7 @@ class Typed(NamedTuple):
     @property
     def is_as_svn(self) -> bool:
         """Return whether the verb comes first, and a URL later."""
-        return bool(self.plain) and self.plain[0] in OF_SVN
+        return bool(self.plain) and self.plain[0] in WITH_URLS
 
     @property
     def verb(self) -> str:
@@ -148,7 +148,7 @@ class Typed(NamedTuple):
 
 
 def verb_of(plain: Sequence[str]) -> str:
-    if plain and plain[0] in OF_SVN:
+    if plain and plain[0] in WITH_URLS:
         return plain[0]
     return plain[1] if len(plain) > 1 else ""
 
@@ -222,7 +222,7 @@ class Completion:
     def _argument(self, typed: Typed, part: str) -> Candidates:
         """Return what may stand where no option does."""
         if not typed.plain:
-            return Candidates([*map(Word, self._urls(part, False)), *verb_words((*OF_SVN, OF_ALL))], True)
+            return Candidates([*map(Word, self._urls(part, False)), *verb_words((*WITH_URLS, OF_ALL))], True)
         if not typed.verb:
             return Candidates(verb_words(HELP))
         possible = [each for each in actions_of(typed.verb) if not each.option_strings]

@@ -14,6 +14,7 @@ from svnask.texts import encoded
 NUMBER = re.compile(r"[0-9]+\Z")
 # A word of `-c`: a minus for the way back, and one number or two.
 CHANGE = re.compile(r"(-(?=r*\+?[0-9])|r+-(?=[0-9]))?r*\+?([0-9]+)(?:(-)r*\+?([0-9]*))?\Z")
+CHANGES = re.compile(r"r*[0-9]+(?:-r*[0-9]+)?(?:,r*[0-9]+(?:-r*[0-9]+)?)*\Z")
 DATE = re.compile(r"\{(.*)\}\Z", re.DOTALL)
 WORDS = re.compile(r"(?:BASE|PREV|COMMITTED)\Z", re.IGNORECASE)
 
@@ -90,8 +91,27 @@ def is_revision(text: str) -> bool:
     return bool(NUMBER.match(named) or DATE.match(named) or named.upper() == "HEAD")
 
 
-def syntax_error(text: str) -> Denied:
-    return Denied("E205000", f"Syntax error in revision argument '{text}'")
+def names_revisions(text: str) -> bool:
+    """Return whether a word is a revision, or several as for `-c`: `63,65` or `63-65`."""
+    return is_revision(text) or CHANGES.match(text) is not None
+
+
+def ranges_named(history: OpenHistory, text: str) -> list[tuple[int, int]]:
+    """Return the ranges of a word that names a revision, or several."""
+    if is_revision(text):
+        rev = revision_of(history, text)
+        return [(rev, rev)]
+    return changes_of_option([text])
+
+
+def between(history: OpenHistory, ends: tuple[int, int]) -> range:
+    """Return the revisions between two that there are, in either order."""
+    lo, hi = sorted(known(history, rev) for rev in ends)
+    return range(lo, hi + 1)
+
+
+def syntax_error(text: str, *advice: str) -> Denied:
+    return Denied("E205000", f"Syntax error in revision argument '{text}'", advice)
 
 
 def known(history: OpenHistory, rev: int) -> int:

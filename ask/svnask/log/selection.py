@@ -8,6 +8,7 @@ from typing import NamedTuple
 
 from svnask.engine.queries import LocationSegments, Log, Segment
 from svnask.errors import Denied
+from svnask.history import near_names
 from svnask.history.open_history import OpenHistory
 from svnask.history.targets import Target, known
 from svnask.paths import Place, is_at_or_below, joined, tops_of
@@ -51,7 +52,7 @@ class Trace(NamedTuple):
 
 def not_found(history: OpenHistory, target: Target, rev: int) -> Denied:
     text = f"File not found: revision {rev}, path '{decoded(target.path)}'"
-    return Denied("E160013", text, [*how_it_ended(history, target.path, rev)])
+    return Denied("E160013", text, [*how_it_ended(history, target.path, rev)] or near_names.advice(history, target))
 
 
 def how_it_ended(history: OpenHistory, path: bytes, rev: int) -> Iterator[str]:

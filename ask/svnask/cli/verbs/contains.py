@@ -11,7 +11,17 @@ from svnask.branches import questions as branches
 from svnask.cli.verbs.log import glob_of
 from svnask.errors import Usage
 from svnask.history.open_history import OpenHistory
-from svnask.history.targets import is_revision, known, pattern_of, range_of, revision_of
+from svnask.history.targets import (
+    between,
+    is_revision,
+    known,
+    names_revisions,
+    pattern_of,
+    range_of,
+    ranges_named,
+    revision_of,
+    syntax_error,
+)
 from svnask.log.forms import SHOWN, as_wanted, sieve_of
 from svnask.log.plain import author_of, date_of
 from svnask.log.search import Glob, is_found
@@ -27,7 +37,12 @@ class ContainsVerb(Verb):
     columns = ("revision", "path", "peg", "how")
 
     def arguments(self, parser: ArgumentParser) -> None:
-        parser.add_argument("revision", metavar="REV", nargs="?", help="a number, HEAD or a {DATE}; others may follow")
+        parser.add_argument(
+            "revision",
+            metavar="REV",
+            nargs="?",
+            help="a number, HEAD or a {DATE}, or several as in 3,5-7; others may follow",
+        )
         add_patterns(parser, "with @PEG as of that revision; **")
         parser.add_argument(
             "-r", "--revision", dest="ranges", metavar="LO:HI", action="append", default=[], help=OF_RANGES
@@ -41,12 +56,11 @@ class ContainsVerb(Verb):
         words, patterns = split_words([*filter(None, [given.revision]), *given.patterns])
         if not words and not given.ranges and not given.search:
             for word in patterns[:1]:
-                revision_of(history, word)
+                raise syntax_error(word, f"svnask: 'contains --search {word}' is about revisions whose message has it")
             raise Usage("the following arguments are required: REV: 'svnask contains --help' says what they are")
-        found = {known(history, revision_of(history, word)) for word in words}
+        found = {rev for word in words for ends in ranges_named(history, word) for rev in between(history, ends)}
         for text in given.ranges:
-            lo, hi = sorted(known(history, rev) for rev in range_of(history, text))
-            found.update(range(max(lo, 1), hi + 1))
+            found.update(filter(None, between(history, range_of(history, text))))
         found.update(searched(history, [glob_of(word) for word in given.search]))
         tables = (
             branches.holders_of_all(history, asked, sorted(found), peg)
@@ -56,7 +70,7 @@ class ContainsVerb(Verb):
 
     def is_about_one(self, given: Namespace) -> bool:
         words, _ = split_words([*filter(None, [given.revision]), *given.patterns])
-        return len(words) == 1 and not given.ranges and not given.search
+        return len(words) == 1 and is_revision(words[0]) and not given.ranges and not given.search
 
     def text(self, history: OpenHistory, given: Namespace) -> Iterator[bytes]:
         is_one = self.is_about_one(given)
@@ -87,7 +101,7 @@ def patterns_by_peg(history: OpenHistory, texts: Sequence[str]) -> dict[int | No
 
 def split_words(words: Sequence[str]) -> tuple[list[str], list[str]]:
     """The words that are revisions, and those that are patterns."""
-    return [*filter(is_revision, words)], [word for word in words if not is_revision(word)]
+    return [*filter(names_revisions, words)], [word for word in words if not names_revisions(word)]
 
 
 def searched(history: OpenHistory, globs: Sequence[Glob]) -> Iterator[int]:

@@ -7,6 +7,7 @@ from collections.abc import Iterable, Iterator
 
 from svnask.asking.verb import Object, Verb, add_log, fields_line, object_of_revision
 from svnask.branches.gained import Gained, gained
+from svnask.branches.questions import RECORDED
 from svnask.history.open_history import OpenHistory
 from svnask.history.targets import target_of
 from svnask.log import selection as log
@@ -78,7 +79,7 @@ class NewVerb(Verb):
         else:
             for each in found:
                 author, date, line = about(history.revision(each.rev))
-                yield fields_line([b"r%d" % each.rev, author, *[date] * given.log, line])
+                yield fields_line([b"r%d" % each.rev, author, *[date] * given.log, line, *marks_of(each)])
 
     def objects(self, history: OpenHistory, given: Namespace) -> Iterator[Object]:
         for each in self.gained(history, given):
@@ -90,6 +91,11 @@ class NewVerb(Verb):
     def rows(self, history: OpenHistory, given: Namespace) -> Iterator[Object]:
         for each in self.objects(history, given):
             yield {**each, "issues": " ".join(each.get("issues", ()))}
+
+
+def marks_of(each: Gained) -> list[bytes]:
+    """Return what a line says besides of a revision: that it was only recorded as merged."""
+    return [b"recorded"] * (each.how == RECORDED)
 
 
 def issues_of(history: OpenHistory, each: Gained, issue: re.Pattern[str]) -> list[bytes]:
@@ -125,8 +131,8 @@ def markdown(history: OpenHistory, found: list[Gained], given: Namespace) -> Ite
     for each in found:
         revision = history.revision(each.rev)
         author, date, line = about(revision)
-        by = b", ".join([author, *[date] * given.log])
-        yield b"- r%d %s (%s)\n" % (each.rev, in_markdown(line), in_markdown(by))
+        by = b", ".join([author, *[date] * given.log, *marks_of(each)])
+        yield b"- r%d%s (%s)\n" % (each.rev, b" " * bool(line) + in_markdown(line), in_markdown(by))
         rest = LINE_END.split((revision.message or b"").strip())[1:] if given.full else []
         yield from (b"  %s\n" % in_markdown(text) if text.strip() else b"\n" for text in rest)
 
