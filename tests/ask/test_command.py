@@ -4,6 +4,7 @@ from __future__ import annotations
 import gzip
 import json
 import os
+import shlex
 import signal
 import subprocess
 import sys
@@ -12,7 +13,8 @@ from pathlib import Path
 from dev import running
 from dev.dumps import FILE, added, dump_of, first_lines
 from dev.tree import ROOT
-from svnask.asking.verbs import HELP
+from svnask.asking.parser import parsed
+from svnask.asking.verbs import EXAMPLE_OF, HELP
 from tests.ask import base
 from tests.ask.questions import ALL, OF_DUMP, OTHERS, all_but
 
@@ -112,6 +114,12 @@ class Command(base.Case):
             self.assertEqual((done.status, done.said), (0, ""))
             front = "" if verb == "sources" else "SOURCE "
             self.assertIn(f"usage: svnask {front}{verb} ".encode(), done.output)
+            self.assertIn(f"\nExample: svnask {EXAMPLE_OF[verb]}\n".encode(), done.output)
+            self.assertEqual(parsed(shlex.split(EXAMPLE_OF[verb].partition(" <")[0])).verb, verb)
+            for words in (["help", verb], ["--help", verb]):
+                self.assertEqual(base.called(*words), done)
+        self.assertEqual(base.called("help"), base.called("--help"))
+        self.check_unanswered(2, "there is no verb 'nope'", "help", "nope")
         self.assertIn(b"PATH[@PEG]", base.run("where", "--help").output)
 
     def test_a_file_that_is_not_there_has_status_3(self) -> None:

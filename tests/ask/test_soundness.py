@@ -49,6 +49,7 @@ class Soundness(base.Case):
             ([(b"trunk", b"/b/one:3-6"), (b"trunk/lib", b"/b/one/lib:3,6*")], []),
             ([(b"trunk", b"/b/one:3-6*"), (b"trunk/lib", b"/b/one/lib:3")], []),
             ([(b"trunk", b""), (b"trunk/lib", b"")], [f"/trunk/lib\t{same}"]),
+            ([(b"b/one", b"/b/one:3,6\n/trunk:1")], ["/b/one\t/b/one:3,6 is the history of the path itself"]),
         )
         # fmt: on
         for most in (soundness.MOST_SOURCES, 1):

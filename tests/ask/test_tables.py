@@ -3,9 +3,12 @@ from __future__ import annotations
 
 import csv
 import io
+from contextlib import suppress
 
 from dev.dumps import FILE, Dump, Revision, added, changed, copied, dump_of
+from svnask.asking.parser import parsed
 from svnask.asking.verbs import verb_named
+from svnask.errors import Unsound, Usage
 from tests.ask import base
 from tests.ask.questions import OF_DUMP, all_but
 
@@ -43,10 +46,26 @@ class Tables(base.Case):
         self.assertEqual(len(rows_of(base.called("--csv", DUMP, "log"))), 19)
 
     def test_a_message_may_have_any_letters(self) -> None:
-        message = 'one, "two"\nthree'
-        revisions = [Revision(0), Revision(1, [added(b"trunk")], base.named(1, message))]
-        dump = self.made("dump", bytes(Dump(revisions)))
-        self.assertEqual([row["message"] for row in rows_of(base.called("--csv", dump, "log"))], [message])
+        for message in ('one, "two"\nthree', "one\rtwo", "\r", "one\r\n"):
+            revisions = [Revision(0), Revision(1, [added(b"trunk")], base.named(1, message))]
+            dump = self.made("dump", bytes(Dump(revisions)))
+            text = base.called("--csv", dump, "log").output.decode()
+            self.assertEqual([row["message"] for row in csv.DictReader(io.StringIO(text, newline=""))], [message])
+
+    def test_each_field_has_a_column(self) -> None:
+        """What is a list or an object has columns of its own, or is for objects."""
+        for words in all_but({*OF_DUMP, "graph", "info", "serve", "update", "migration"}):
+            verb = verb_named(words[0])
+            given = parsed([str(DUMP), *(word for word in words if word != "--json")])
+            if not verb.columns or given.verb == "changed-tags":
+                continue
+            columns = {column.partition(".")[0] for column in verb.columns_for(given)}
+            found: list[dict[str, object]] = []
+            with suppress(Usage, Unsound):
+                found += verb.rows(self.history(DUMP), given)
+            for each in found:
+                plain = {name for name, value in each.items() if value != "" and not isinstance(value, (list, dict))}
+                self.assertLessEqual(plain, columns, words)
 
     def test_what_prints_no_table_says_so(self) -> None:
         for words in (["info"], ["graph"], ["record", "1"], ["update"], ["ask", "queries"]):

@@ -8,7 +8,7 @@ import re
 from typing import TYPE_CHECKING, Any, NoReturn
 
 from svnask import __version__
-from svnask.asking.verbs import HELP, verb_named
+from svnask.asking.verbs import EXAMPLE_OF, HELP, verb_named
 from svnask.asking.words import OF_ALL, joined_options, ordered_words, places, with_source
 from svnask.errors import Usage
 from svnask.lazy import Lazy
@@ -101,7 +101,8 @@ def parser(asked: str | None = None) -> Parser:
     verbs = made.add_subparsers(dest="verb", metavar="VERB", required=True, parser_class=Parser, prog="svnask SOURCE")
 
     for name in HELP if asked is None else [asked]:
-        below = verbs.add_parser(name, help=HELP[name], description=HELP[name])
+        example = f"Example: svnask {EXAMPLE_OF[name]}"
+        below = verbs.add_parser(name, help=HELP[name], description=HELP[name], epilog=example)
         for option in ("--json", "--csv", "--no-cache", "--offline"):
             below.add_argument(option, action="store_true", default=argparse.SUPPRESS, help=argparse.SUPPRESS)
         below.add_argument("--below", metavar="PATH", default=argparse.SUPPRESS, help=argparse.SUPPRESS)
@@ -121,7 +122,7 @@ def parser_of_verb(name: str) -> Parser:
 def parsed(words: list[str]) -> argparse.Namespace:
     """Return what a command line says. `SystemExit` where it is a call for help, which was printed."""
     access, left = split_access(joined_options(words))
-    ready = with_source(left, HELP)
+    ready = with_source(help_words(left), HELP)
     need_source(ready)
     asked = next((ready[at] for at in places(ready)[1:2] if ready[at] in HELP), None)
     found = parser(asked).parse_args(ordered_words(ready), argparse.Namespace(access=Access(access)))
@@ -130,6 +131,13 @@ def parsed(words: list[str]) -> argparse.Namespace:
     if found.csv:
         need_table(found.verb)
     return found
+
+
+def help_words(words: list[str]) -> list[str]:
+    """Return the words that call for the help of a verb, or of all, where these do: `help`, `help VERB` or
+    `--help VERB`."""
+    is_call = words[:1] in (["-h"], ["--help"]) or words[:1] == ["help"] and not os.path.lexists("help")
+    return [*words[1:2], "--help"] if is_call and set(words[1:]) <= {*HELP} else words
 
 
 def need_table(verb: str) -> None:

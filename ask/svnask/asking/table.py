@@ -24,8 +24,9 @@ def csv_lines(verb: Verb, history: OpenHistory, given: Namespace) -> Iterator[by
 
 def line_of_cells(cells: Iterable[str]) -> bytes:
     written = io.StringIO()
-    csv.writer(written, lineterminator="\n").writerow(cells)
-    return written.getvalue().encode("utf-8", "surrogateescape")
+    # A cell is put in quotes if it has a character of the end of a line, either of these.
+    csv.writer(written, lineterminator="\r\n").writerow(cells)
+    return written.getvalue()[:-2].encode("utf-8", "surrogateescape") + b"\n"
 
 
 def cell_of(found: Object, column: str) -> str:

@@ -36,6 +36,37 @@ HELP = {
     "web": "show the history in a browser, and answer questions over HTTP",
     "shell": "answer question after question, one per line",
 }
+# What may follow the command, for each verb.
+EXAMPLE_OF = {
+    "log": "/srv/repo log -v -l 5 trunk",
+    "show": "/srv/repo show r9",
+    "mergeinfo": "/srv/repo mergeinfo --show-revs eligible trunk branches/two",
+    "check-mergeinfo": "/srv/repo check-mergeinfo 'branches/*'",
+    "propget": "/srv/repo propget svn:mergeinfo -R branches/two",
+    "where": "/srv/repo where trunk/main.c@9 3",
+    "segments": "/srv/repo segments branches/two",
+    "heirs": "/srv/repo heirs trunk/main.c@3",
+    "branches": "/srv/repo branches --ahead-behind --log",
+    "contains": "/srv/repo contains --search 'PROJ-12 *' 'tags/*'",
+    "unmerged": "/srv/repo unmerged 'branches/*' --into trunk",
+    "new": "/srv/repo new tags/1.0 tags/1.1 --markdown",
+    "changed-tags": "/srv/repo changed-tags 'tags/1.*' --log",
+    "graph": "/srv/repo graph --since 5 -o branches.svg",
+    "export": "/srv/repo export history.db",
+    "migration": "/srv/repo migration --rules svn-all-fast-export",
+    "check-git": "/srv/repo check-git converted.git",
+    "record": "repo.dump record 162",
+    "byte": "repo.dump byte 5930",
+    "info": "repo.dump info",
+    "ask": "repo.dump ask queries.txt",
+    "update": "/srv/repo update",
+    "forget": "/srv/repo forget",
+    "sources": "sources",
+    "serve": "/srv/repo serve --stop-after 60",
+    "stop": "/srv/repo stop",
+    "web": "/srv/repo web --listen 127.0.0.1:8080",
+    "shell": "/srv/repo shell <questions.txt",
+}
 
 
 def verb_named(name: str) -> Verb:

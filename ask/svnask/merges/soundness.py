@@ -18,6 +18,7 @@ MALFORMED = "can't be read"
 NO_PATH = "there never was such a path"
 NO_REVISION = "the path is not in these revisions"
 NOT_OPERATIVE = "nothing was changed there"
+OWN = "is the history of the path itself"
 LACKING = "is lacking, and {} has it"
 INHERITED = "is the same as what {} gives, and could go"
 # How many source paths are looked at together, and how many values are kept that others may inherit.
@@ -131,6 +132,13 @@ def findings_of_source(paths: Paths, path: bytes, source: bytes, runs: Sequence[
         yield Finding(path, source, text_of(idle), NOT_OPERATIVE)
 
 
+def findings_of_itself(path: bytes, runs: Iterable[Run], own: Range) -> Iterator[Finding]:
+    """Yield the revisions that a value names of its own path, since that was made last."""
+    found = Revisions((run.lo, run.hi) for run in runs) & Revisions([own])
+    if found:
+        yield Finding(path, path, text_of(found.ranges), OWN)
+
+
 def operative_of(paths: Paths, source: bytes, runs: Iterable[Run]) -> set[int]:
     return {rev for run in runs for rev in paths.operative(source, run.lo, run.hi)}
 
@@ -161,6 +169,8 @@ def findings_of_group(history: OpenHistory, group: Sequence[ValuedPath]) -> Iter
         for source, runs in sorted(value.items()):
             if is_askable(source):
                 yield from findings_of_source(paths, path, source, runs)
+        if path in value:
+            yield from findings_of_itself(path, value[path], paths.lives(path)[-1])
         if nearest is not None:
             yield from findings_of_nearest(paths, path, value, nearest)
 

@@ -67,7 +67,7 @@ class BranchesVerb(Verb):
     # fmt: off
     columns = (
         "path", "kind", "first", "last", "from.path", "from.revision", "is_alive", "moved_to", "last_change", "ahead",
-        "behind",
+        "behind", "is_moved", "is_folder",
     )
     # fmt: on
 

@@ -34,6 +34,8 @@ class ChangedTagsVerb(Verb):
         "author",
         "date",
         "message",
+        "is_alive",
+        "is_changed_when_made",
     )
 
     def arguments(self, parser: ArgumentParser) -> None:

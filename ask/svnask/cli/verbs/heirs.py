@@ -14,7 +14,7 @@ from svnask.texts import decoded
 
 
 class HeirsVerb(Verb):
-    columns = ("path", "revision", "from.path", "from.revision")
+    columns = ("path", "revision", "from.path", "from.revision", "is_moved")
 
     def arguments(self, parser: ArgumentParser) -> None:
         parser.add_argument("target", metavar="PATH[@PEG]")

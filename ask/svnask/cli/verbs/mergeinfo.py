@@ -26,7 +26,10 @@ NEED_SHOW_REVS = (
 
 
 # The columns of what is drawn about two branches.
-OF_SUMMARY = tuple(f"{of}.{part}" for of in ("source", "target", "ancestor", "merged") for part in ("path", "revision"))
+OF_SUMMARY = (
+    *(f"{of}.{part}" for of in ("source", "target", "ancestor", "merged") for part in ("path", "revision")),
+    "is_back",
+)
 OF_DEPTH = "also by the mergeinfo of paths below the target"
 OF_RANGES = "only these revisions of the source"
 

@@ -14,7 +14,9 @@ else:
     server = Lazy("svnask.web.server")
 
 NEEDED = ("jinja2", "markupsafe", "waitress")
-LACKING = "web needs Jinja2 and waitress: 'pip install svnhist[web]', or 'apt install python3-jinja2 python3-waitress'"
+LACKING = (
+    "web needs Jinja2 and waitress: 'pip install jinja2 waitress', or 'apt install python3-jinja2 python3-waitress'"
+)
 
 
 class WebVerb(Verb):
