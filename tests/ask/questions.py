@@ -15,6 +15,7 @@ ALL = base.commands(
     "mergeinfo --show-revs eligible --log --depth infinity trunk branches/two; check-mergeinfo; check-mergeinfo /**; "
     "propget svn:mergeinfo -R / trunk; propget svn:mergeinfo -R; where trunk 3; segments trunk; heirs trunk@3; "
     "heirs trunk@1 9; branches; branches /** --ahead-behind --log; contains 2; contains 3 2 --log --in /**; contains --search copy -r 1:3; unmerged; unmerged --log; unmerged /* /*/* --into branches/two; "
+    "merges; merges trunk --from /branches/* --log; merges trunk /** --from trunk; "
     "new trunk@3 branches/two; new branches/two trunk -v; new branches/two trunk --all --by-author --markdown --full; new branches/two trunk --issue e; changed-tags --log /**; changed-tags /*/*; graph; graph /*/* --json; "
     "migration; migration --authors-file; migration --rules svn-all-fast-export; graph --since 5 --by-time --unfolded; graph --width 200 /**; info; record 1; byte 1; serve --stop-after 0; update"
 )

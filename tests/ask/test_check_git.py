@@ -10,7 +10,8 @@ from dev.running import run
 from svnask import History
 from svnask.export.contents import files_at
 from svnask.export.git import time_of
-from svnask.export.migration import WHOLE, NamedLife, named_lives, shown_merges
+from svnask.export.migration import NamedLife, named_lives
+from svnask.picture.branch_merges import WHOLE, merges_of
 from svnask.picture.graph import Graph, graph_of
 from tests.ask import base
 
@@ -23,7 +24,7 @@ def commits_of(history: History) -> Iterator[Commit]:
     """Yield the commits that a good migration makes, by their revisions."""
     graph: Graph = graph_of(history, [])
     names = {each.life: ref_of(each) for each in named_lives(life for lane in graph.lanes for life in lane.lives)}
-    merges = {(each.into, each.rev): each for each in shown_merges(graph) if each.how == WHOLE}
+    merges = {(each.into, each.rev): each for each in merges_of(graph) if each.how == WHOLE}
     places = [
         (life, rev, lane) for lane in graph.lanes for life in lane.lives for rev in lane.revisions if life.has(rev)
     ]

@@ -19,7 +19,7 @@ from dev.dumps import DIR, Node, Source, added, changed, deleted, dump_of
 from dev.tree import ROOT
 from svnask import History, files
 from svnask.asking.parser import parser
-from svnask.asking.verbs import HELP
+from svnask.asking.verbs import EXAMPLE_OF, HELP
 from svnask.cli import command, completion
 from svnask.cli.completion import BASH, lines_for
 from svnask.cli.verbs.segments import SegmentsVerb
@@ -99,8 +99,8 @@ class Words(CompletionTest):
         self.addCleanup(parser.cache_clear)
         module = mock.Mock(VERB=NewVerb())
         with mock.patch.dict(HELP, {"brand-new": "a verb that is new"}), mock.patch.dict(
-            sys.modules, {"svnask.cli.verbs.brand_new": module}
-        ):
+            EXAMPLE_OF, {"brand-new": "DUMP brand-new"}
+        ), mock.patch.dict(sys.modules, {"svnask.cli.verbs.brand_new": module}):
             parser.cache_clear()
             self.assertEqual(self.words(DUMP, "br"), ["branches", "brand-new"])
             self.assertEqual(self.words(DUMP, "brand-new", "--b"), ["--below", "--brand"])

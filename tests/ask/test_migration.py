@@ -14,9 +14,9 @@ class Migrations(base.Case):
     def test_merges_as_git_shows_them(self) -> None:
         found = [line.split("\t") for line in self.lines(base.dump_of("merges")) if line.startswith("merge")]
         self.assertEqual(
-            [(rev, how) for _, rev, _, _, how in found],
-            [("r7", "whole"), ("r8", "picked"), ("r9", "recorded"), ("r11", "whole"), ("r13", "whole")]
-            + [("r15", "part"), ("r19", "recorded")],
+            [(line[1], *line[4:]) for line in found],
+            [("r7", "whole"), ("r8", "picked", "5"), ("r9", "recorded"), ("r11", "whole"), ("r13", "whole")]
+            + [("r15", "part", "14"), ("r19", "recorded")],
         )
 
     def test_a_merge_lacks_what_was_left_out(self) -> None:

@@ -187,8 +187,8 @@ class Web(base.Case):
                 held = [[each["path"], each["how"]] for each in base.objects(dump, "contains", str(rev))]
                 self.assertEqual([row for row in rows if len(row) == 2][1:], held)
                 merged = [f"r{each['revision']}" for each in merges if rev in each["merged"]]
-                arrows = [row for row in rows if len(row) == 5 and row[0].startswith("r")]
-                self.assertEqual(sorted(row[0] for row in arrows if f"r{rev}" in row[3].split()), sorted(merged))
+                arrows = [row for row in rows if len(row) == 6 and row[0].startswith("r")]
+                self.assertEqual(sorted(row[0] for row in arrows if f"r{rev}" in row[4].split()), sorted(merged))
 
     def test_the_page_of_a_path(self) -> None:
         dump = base.dump_of("merges")

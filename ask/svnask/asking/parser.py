@@ -101,14 +101,13 @@ def parser(asked: str | None = None) -> Parser:
     verbs = made.add_subparsers(dest="verb", metavar="VERB", required=True, parser_class=Parser, prog="svnask SOURCE")
 
     for name in HELP if asked is None else [asked]:
-        example = f"Example: svnask {EXAMPLE_OF[name]}"
-        below = verbs.add_parser(name, help=HELP[name], description=HELP[name], epilog=example)
+        below = verbs.add_parser(name, help=HELP[name], description=HELP[name])
         for option in ("--json", "--csv", "--no-cache", "--offline"):
             below.add_argument(option, action="store_true", default=argparse.SUPPRESS, help=argparse.SUPPRESS)
         below.add_argument("--below", metavar="PATH", default=argparse.SUPPRESS, help=argparse.SUPPRESS)
         if name == asked:
             verb = verb_named(name)
-            below.usage = verb.usage
+            below.usage, below.epilog = verb.usage, f"Example: svnask {EXAMPLE_OF[name]}"
             verb.arguments(below)
     return made
 

@@ -13,6 +13,7 @@ LONG = {"-r": "--revision", "-c": "--change", "-l": "--limit", "-o": "--output"}
 VALUED = frozenset(
     (*LONG.values(), *REACHED, "--into", "--show-revs", "--depth", "--with-revprop", "--search", "--search-and")
     + (
+        "--from",
         "--since",
         "--until",
         "--width",

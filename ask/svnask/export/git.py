@@ -8,11 +8,12 @@ from typing import NamedTuple
 
 from svnask.errors import Denied, Failed
 from svnask.export.contents import files_at
-from svnask.export.migration import WHOLE, NamedLife, ShownMerge, named_lives, shown_merges
+from svnask.export.migration import NamedLife, named_lives
 from svnask.history.dates import read_date
 from svnask.history.lives import Life
 from svnask.history.open_history import OpenHistory
 from svnask.paths import joined
+from svnask.picture.branch_merges import WHOLE, BranchMerge, merges_of
 from svnask.picture.graph import Graph, Lane, graph_of
 from svnask.projects import TAG, TRUNK, trunk_of
 from svnask.revisions import in_range
@@ -113,7 +114,7 @@ class Comparison:
         is_alone = len({trunk_of(each.life.path) for each in alive}) == 1
         for each in alive:
             yield from self._of_life(each, refs_of(each, is_alone))
-        for merge in shown_merges(self._graph):
+        for merge in merges_of(self._graph):
             yield from self._of_merge(merge)
 
     def _of_life(self, named: NamedLife, refs: Iterable[bytes]) -> Iterator[GitDifference]:
@@ -152,7 +153,7 @@ class Comparison:
         revision = self._history.revision(rev)
         return revision.author or b"", time_of(revision.date), (revision.message or b"").strip()
 
-    def _of_merge(self, merge: ShownMerge) -> Iterator[GitDifference]:
+    def _of_merge(self, merge: BranchMerge) -> Iterator[GitDifference]:
         commits = self._git.commits(merge.rev, self._text_of(merge.rev)) if merge.into in self._found else []
         if commits and all((commit.parents > 1) != (merge.how == WHOLE) for commit in commits):
             how, parents = merge.how.encode("ascii"), commits[0].parents

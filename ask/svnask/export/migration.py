@@ -1,10 +1,8 @@
 """What a migration to git has to know of a history."""
 from __future__ import annotations
 
-import bisect
 import re
-from collections.abc import Iterable, Iterator, Sequence
-from functools import cache
+from collections.abc import Iterable, Iterator
 from typing import NamedTuple
 
 from svnask.branches.questions import Touched, touched
@@ -12,13 +10,13 @@ from svnask.export.contents import Outside, empty_directories, outside_of
 from svnask.history.lives import Life
 from svnask.history.open_history import OpenHistory
 from svnask.paths import components
-from svnask.picture.graph import Graph, Lane, LaneMerge, graph_of
+from svnask.picture.branch_merges import BranchMerge, merges_of
+from svnask.picture.graph import Graph, graph_of
 from svnask.projects import BRANCH, KINDS, TAG, TRUNK, is_named, kind_of, trunk_of
 from svnask.revisions import in_range
 
 # What git does not take in the name of a branch or a tag.
 REFUSED_PART = re.compile(rb"\A\.|\.lock\Z|\.\Z|\.\.|@\{|\A@\Z|[\x00-\x20\x7f~^:?*\[\\]")
-WHOLE, PICKED, RECORDED, PART = "whole", "picked", "recorded", "part"
 
 
 class Author(NamedTuple):
@@ -55,19 +53,6 @@ class Several(NamedTuple):
     paths: list[bytes]
 
 
-class ShownMerge(NamedTuple):
-    """A merge, by the paths that were merged and merged into, and how git can show it.
-
-    A `whole` merge has all of a branch up to its newest revision there, as a commit with two parents has. Others are
-    `picked`, a `part` below a branch, or only `recorded`.
-    """
-
-    rev: int
-    of: bytes
-    into: bytes
-    how: str
-
-
 class Migration(NamedTuple):
     authors: list[Author]
     projects: list[Project]
@@ -77,14 +62,13 @@ class Migration(NamedTuple):
     empty: list[bytes]
     several: list[Several]
     tags: list[Touched]
-    merges: list[ShownMerge]
+    merges: list[BranchMerge]
 
 
 def migration_of(history: OpenHistory) -> Migration:
     history.check()
     graph = graph_of(history, [])
     lives = [life for lane in graph.lanes for life in lane.lives]
-    merges = list(shown_merges(graph))
     trunks = sorted(life.path for life in lives if life.is_alive and kind_of(life.path) == TRUNK)
     return Migration(
         authors_of(history),
@@ -94,7 +78,7 @@ def migration_of(history: OpenHistory) -> Migration:
         [path for trunk in trunks for path in empty_directories(history, trunk)],
         list(several_in(graph)),
         list(touched(history, ())) if any(kind_of(life.path) == TAG for life in lives) else [],
-        merges,
+        list(merges_of(graph)),
     )
 
 
@@ -191,55 +175,3 @@ def several_in(graph: Graph) -> Iterator[Several]:
             for rev in in_range(lane.revisions, life.first + 1, life.last):
                 found.setdefault(rev, []).append(life.path)
     return (Several(rev, sorted(paths)) for rev, paths in sorted(found.items()) if len(paths) > 1)
-
-
-def shown_merges(graph: Graph) -> Iterator[ShownMerge]:
-    """Yield the merges, but for what another branch carried along, and how git can show them."""
-    copied_from = {copy.lane: copy.source for copy in graph.copies}
-    known = cache(lambda number: frozenset(graph.lanes[number].revisions))
-    tallies: dict[tuple[int, int], Brought] = {}
-    for merge in graph.merges:
-        source, target = graph.lanes[merge.source], graph.lanes[merge.target]
-        if (merge.source, merge.target) not in tallies:
-            begin = history_begin(source, target, copied_from.get(merge.target) == merge.source)
-            tallies[merge.source, merge.target] = Brought(source.revisions, known(merge.source), begin)
-        brought = tallies[merge.source, merge.target]
-        brought.add(merge.revisions)
-        if not merge.is_carried:
-            of, into = merge.of or source.life(merge.revisions[-1]).path, merge.into or target.life(merge.rev).path
-            yield ShownMerge(merge.rev, of, into, how_in_git(merge, brought.is_whole))
-
-
-class Brought:
-    """The revisions of a branch after one that were merged into another branch so far."""
-
-    def __init__(self, revisions: Sequence[int], known: frozenset[int], begin: int) -> None:
-        self._revisions, self._known, self._begin, self._newest = revisions, known, begin, begin
-        self._merged: set[int] = set()
-        self._count = 0
-
-    def add(self, merged: Sequence[int]) -> None:
-        self._newest = max(self._newest, merged[-1])
-        new = self._known.intersection(merged).difference(self._merged)
-        self._merged |= new
-        self._count += sum(rev > self._begin for rev in new)
-
-    @property
-    def is_whole(self) -> bool:
-        """Return whether all of them up to the newest one that was merged were."""
-        first, last = (bisect.bisect_right(self._revisions, rev) for rev in (self._begin, self._newest))
-        return self._count == last - first
-
-
-def how_in_git(merge: LaneMerge, is_whole: bool) -> str:
-    if merge.is_record_only:
-        return RECORDED
-    if merge.of or merge.into:
-        return PART
-    return WHOLE if is_whole else PICKED
-
-
-def history_begin(source: Lane, target: Lane, is_copy: bool) -> int:
-    """Return the last revision of a merged branch that the other one has by a copy of it, or the copy of it."""
-    copy = target.lives[0].source
-    return copy[1] if is_copy and copy is not None else source.lives[0].first

@@ -18,7 +18,7 @@ from svnask.web.words import quoted
 
 # The verbs that only read a history.
 VERBS = tuple(
-    "log show mergeinfo check-mergeinfo propget where segments heirs branches contains unmerged new changed-tags graph "
+    "log show mergeinfo check-mergeinfo propget where segments heirs branches contains unmerged merges new changed-tags graph "
     "migration record byte info".split()
 )
 # What reads or writes a file of the host, and what an address says by itself.

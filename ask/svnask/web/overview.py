@@ -1,17 +1,19 @@
 """The page of all branches and tags, with their picture."""
 from __future__ import annotations
 
+from collections.abc import Sequence
 from itertools import groupby
 from typing import NamedTuple
 
 from markupsafe import Markup
-from svnask.asking.verb import Object
+from svnask.asking.verb import Object, shown
 from svnask.paths import with_peg
-from svnask.picture.graph import Graph
+from svnask.picture.branch_merges import named
+from svnask.picture.graph import Graph, LaneMerge
 from svnask.picture.options import HEIGHT, drawn_of
 from svnask.picture.svg import svg_of
 from svnask.projects import trunk_of
-from svnask.texts import encoded
+from svnask.texts import decoded, encoded
 from svnask.web.asked import Asked
 from svnask.web.request import Request
 from svnask.web.site import OwnLinks, Page, address
@@ -63,6 +65,29 @@ class ShownPicture(NamedTuple):
     svg: Markup
     left: int | None
     whole: Graph | None
+
+
+class ShownMerge(NamedTuple):
+    """A merge: the revision that made it and who did, from where and into what, and how it counts."""
+
+    rev: int
+    author: str | None
+    source: str
+    target: str
+    revisions: Sequence[int]
+    how: str
+
+
+def shown_merge(asked: Asked, graph: Graph, merge: LaneMerge) -> ShownMerge:
+    """Return a merge by the paths that its branches had then."""
+    parts = [
+        *["only recorded"] * merge.is_record_only,
+        *["with another merge"] * merge.is_carried,
+        *([] if merge.lost is None else [f"taken back in r{merge.lost}"]),
+    ]
+    found = named(graph, merge, ", ".join(parts) or "merged")
+    author = shown(asked.history.revision(found.rev).author)
+    return ShownMerge(found.rev, author, decoded(found.of), decoded(found.into), found.revisions, found.how)
 
 
 class ProjectRows(NamedTuple):

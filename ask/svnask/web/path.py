@@ -13,6 +13,7 @@ from svnask.history.targets import Target, known, revision_of
 from svnask.paths import joined, with_peg
 from svnask.texts import decoded, encoded
 from svnask.web.asked import Asked
+from svnask.web.overview import PLAIN, ShownMerge, picture_of, shown_merge
 from svnask.web.request import Request
 from svnask.web.site import Page, address
 
@@ -35,17 +36,21 @@ def path(asked: Asked, request: Request) -> Page:
         "segments": segments,
         "heirs": list(asked.objects("heirs", "--", target)) if is_old else [],
         "mergeinfo": list(sources_in_words(asked, target)),
+        "merges": merges_into(asked, request, place),
         **page_of_names(asked, request, place),
     }
     words = words_of_log(request)
     values.update(page_of_log(asked, request, place, [*words, "--", target]))
     others = ("segments", *["heirs"] * is_old, "mergeinfo")
+    merges = ["merges"] * bool(values["merges"])
     # A limit counts revisions before they are searched.
     limit = None if request.value("search") else MOST
     commands = [asked.command("log", *[f"--limit={limit}"] * bool(limit), *words, targets=[target])]
     commands += [asked.command(verb, targets=[target]) for verb in others]
+    commands += [asked.command(verb, targets=[decoded(place.path)]) for verb in merges]
     addresses = [address_of_log(request, target, limit)]
     addresses += [address(f"{request.root}/api/{verb}", path=target) for verb in others]
+    addresses += [address(f"{request.root}/api/{verb}", pattern=decoded(place.path)) for verb in merges]
     return Page("path.html", target, commands, addresses, values)
 
 
@@ -133,6 +138,17 @@ def in_words(ranges: str) -> str:
         run = f"r{first} to r{last}" if last else f"r{first}"
         found.append(run + " (not for what is below)" * bool(star))
     return ", ".join(found)
+
+
+def merges_into(asked: Asked, request: Request, place: Target) -> list[ShownMerge]:
+    """Return the newest merges into a path up to a revision, or into what is below it, if it is a branch."""
+    picture = picture_of(asked, PLAIN, request.root)
+    graph = None if picture is None else picture.whole
+    if graph is None:
+        return []
+    lanes = {number for number, lane in enumerate(graph.lanes) for life in lane.lives if life.path == place.path}
+    merges = (each for each in reversed(graph.merges) if each.target in lanes and each.rev <= place.rev)
+    return [shown_merge(asked, graph, each) for each in islice((each for each in merges if not each.is_carried), MOST)]
 
 
 def page_of_names(asked: Asked, request: Request, place: Target) -> dict[str, object]:

@@ -2,30 +2,18 @@
 from __future__ import annotations
 
 import bisect
-from collections.abc import Sequence
-from typing import NamedTuple
 
 from svnask.asking.verb import Object
 from svnask.digits import number
 from svnask.picture.graph import Graph, LaneMerge
 from svnask.texts import decoded
 from svnask.web.asked import Asked
-from svnask.web.overview import PLAIN, picture_of
+from svnask.web.overview import PLAIN, ShownMerge, picture_of, shown_merge
 from svnask.web.request import Request
 from svnask.web.site import Page, address
 
 # How many changed paths a page has.
 MOST_PATHS = 1000
-
-
-class Arrow(NamedTuple):
-    """A merge: the revision that made it, from where and into what, and how it counts."""
-
-    rev: int
-    source: str
-    target: str
-    revisions: Sequence[int]
-    how: str
 
 
 def revision(asked: Asked, request: Request) -> Page:
@@ -35,7 +23,7 @@ def revision(asked: Asked, request: Request) -> Page:
     rev = found["revision"]
     # The picture of all is that of the first page.
     picture = picture_of(asked, PLAIN, request.root)
-    here, there = ([], []) if picture is None or picture.whole is None else merges_at(picture.whole, rev)
+    here, there = ([], []) if picture is None or picture.whole is None else merges_at(asked, picture.whole, rev)
     values = {
         "rev": rev,
         "found": found,
@@ -70,24 +58,13 @@ def page_of_changes(asked: Asked, request: Request, found: Object) -> dict[str, 
     }
 
 
-def merges_at(graph: Graph, rev: int) -> tuple[list[Arrow], list[Arrow]]:
+def merges_at(asked: Asked, graph: Graph, rev: int) -> tuple[list[ShownMerge], list[ShownMerge]]:
     """Return what was merged in a revision, but for what another merge carried along, and where it was merged."""
-    here = [arrow_of(graph, each) for each in graph.merges if each.rev == rev and not each.is_carried]
-    return here, [arrow_of(graph, each) for each in graph.merges if has_merged(each, rev)]
+    here = (each for each in graph.merges if each.rev == rev and not each.is_carried)
+    there = (each for each in graph.merges if has_merged(each, rev))
+    return [shown_merge(asked, graph, each) for each in here], [shown_merge(asked, graph, each) for each in there]
 
 
 def has_merged(merge: LaneMerge, rev: int) -> bool:
     at = bisect.bisect_left(merge.revisions, rev)
     return at < len(merge.revisions) and merge.revisions[at] == rev
-
-
-def arrow_of(graph: Graph, merge: LaneMerge) -> Arrow:
-    """Return a merge by the paths that its branches had then."""
-    source = merge.of or graph.lanes[merge.source].life(merge.revisions[-1]).path
-    target = merge.into or graph.lanes[merge.target].life(merge.rev).path
-    parts = [
-        *["only recorded"] * merge.is_record_only,
-        *["with another merge"] * merge.is_carried,
-        *([] if merge.lost is None else [f"taken back in r{merge.lost}"]),
-    ]
-    return Arrow(merge.rev, decoded(source), decoded(target), merge.revisions, ", ".join(parts) or "merged")

@@ -9,6 +9,7 @@ from svnask.export.contents import large_texts
 from svnask.export.migration import Migration, migration_of, rules_of
 from svnask.history.open_history import OpenHistory
 from svnask.log.plain import author_of
+from svnask.picture.branch_merges import PART, PICKED
 from svnask.texts import decoded, encoded
 
 OF_LARGER = "also the files that got a text of more bytes, of a dump in a file"
@@ -51,8 +52,9 @@ class MigrationVerb(Verb):
         for tag in found.tags:
             events = [{"what": event.what, "revision": event.rev} for event in tag.events]
             yield {"type": "changed-tag", "path": decoded(tag.life.path), "events": events}
-        for rev, of, into, how in found.merges:
-            yield {"type": "merge", "revision": rev, "of": decoded(of), "into": decoded(into), "how": how}
+        for merge in found.merges:
+            place: Object = {"revision": merge.rev, "of": decoded(merge.of), "into": decoded(merge.into)}
+            yield {"type": "merge", **place, "how": merge.how, "revisions": [*merge.revisions]}
 
 
 def fields_of_lines(history: OpenHistory, found: Migration, larger: int | None) -> Iterator[list[bytes]]:
@@ -72,8 +74,9 @@ def fields_of_lines(history: OpenHistory, found: Migration, larger: int | None) 
     for tag in found.tags:
         for event in tag.events:
             yield [b"changed-tag", tag.life.path, b"%s in r%d" % (encoded(event.what), event.rev)]
-    for rev, of, into, how in found.merges:
-        yield [b"merge", b"r%d" % rev, of, into, encoded(how)]
+    for merge in found.merges:
+        fields = [b"merge", b"r%d" % merge.rev, merge.of, merge.into, encoded(merge.how)]
+        yield [*fields, *[encoded(merge.rangelist)] * (merge.how in (PICKED, PART))]
 
 
 def fields_of_contents(history: OpenHistory, found: Migration, larger: int | None) -> Iterator[list[bytes]]:
