@@ -21,7 +21,7 @@ OF_FROM = "only what was merged from the branches and paths that match, as for a
 
 
 class MergesVerb(Verb):
-    columns = ("revision", "author", "date", "source", "target", "revisions", "how")
+    columns = ("revision", "author", "date", "source", "target", "revisions", "how", "message")
 
     def arguments(self, parser: ArgumentParser) -> None:
         add_patterns(parser, "all targets")
