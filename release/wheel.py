@@ -14,7 +14,7 @@ from collections.abc import Sequence
 from dev.tree import ROOT
 from release.archives import filled
 from release.contents import COMPLETIONS, MANUALS, File, Parts, completion, in_folder, manual, module, programs, read
-from release.contents import readme, version, with_live_links
+from release.contents import pages, readme, version, with_live_links
 
 NAME = "svnhist"
 # The programs need no library, so they run with any C library. What they need is Linux 3.2, which is older than each
@@ -66,6 +66,7 @@ def of_wheel(parts: Parts) -> list[File]:
     files += in_folder(data + "scripts/", programs(parts))
     shared = [File("man/man1/" + name, manual(name)) for name in MANUALS]
     shared += [File(place, completion(name)) for name, (_, place) in COMPLETIONS.items()]
+    shared += in_folder("doc/svnhist/", [*pages(["CHANGELOG.md"]), File("CHANGELOG.md", read("CHANGELOG.md"))])
     files += in_folder(data + "data/share/", shared)
     files += in_folder(about + "licenses/", licences(parts))
     files += in_folder(about, [File("METADATA", metadata(parts)), File("WHEEL", form())])

@@ -222,6 +222,10 @@ class Wheels(ProgramTest):
         lines = head.splitlines()
         self.compare("the name and the version", ["Name: svnhist", f"Version: {version()}"], lines[1:3])
         self.compare("the page", "# svnhist", page.splitlines()[0])
+        with zipfile.ZipFile(self.file) as archive:
+            names = {name.partition("/share/doc/svnhist/")[2] for name in archive.namelist()}
+        for named in re.findall(r"[\w/-]+\.(?:md|dump|queries)\b", page):
+            self.assertIn(named, names)
         name, _, tags = name_of_wheel()[: -len(".whl")].partition("-py3-none-")
         self.compare("the name of the file", title(), name)
         wanted = [f"Tag: py3-none-{tag}" for tag in tags.split(".")]
