@@ -62,6 +62,12 @@ def commands(text: str) -> list[list[str]]:
     return [line.split() for line in text.split(";")]
 
 
+def words_of(line: str) -> list[str]:
+    """Return the words that a shell makes of a command line of svnask, without the first one."""
+    done = subprocess.run(["bash", "-c", f"svnask() {{ printf '%s\\0' \"$@\"; }}; {line}"], stdout=-1, check=True)
+    return [word.decode("utf-8", "surrogateescape") for word in done.stdout.split(b"\0")[:-1]]
+
+
 def command(*words: Word) -> list[Word]:
     """The command on these arguments."""
     return [sys.executable, SVNASK, *words]

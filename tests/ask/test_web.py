@@ -332,16 +332,11 @@ class Web(base.Case):
                         seen.add(link)
                         left.append(link)
 
-    def words_of(self, line: str) -> list[str]:
-        """Return the words that a shell makes of a command line, without the first one."""
-        done = subprocess.run(["bash", "-c", f"svnask() {{ printf '%s\\0' \"$@\"; }}; {line}"], stdout=-1, check=True)
-        return [word.decode("utf-8", "surrogateescape") for word in done.stdout.split(b"\0")[:-1]]
-
     def check_commands(self, opened: wsgi.Application, address: str) -> None:
         """Check that each command on a page has an answer, the same as that of the address beside it."""
         page = Reader(self.got(opened, address).text)
         for line in page.commands:
-            done = base.called(*self.words_of(line))
+            done = base.called(*base.words_of(line))
             self.assertIn(done.status, (0, 1 if "check-mergeinfo" in line else 0), (line, done.said))
 
     def test_names_that_are_not_shown(self) -> None:

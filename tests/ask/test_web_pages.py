@@ -8,22 +8,24 @@ import threading
 import unittest
 from pathlib import Path
 from typing import TYPE_CHECKING, Any
+from urllib.parse import parse_qs, unquote
 
 from svnask.asking.parser import parsed
 from svnask.cli.verbs import web
 from svnask.lazy import Lazy
 from tests.ask import base
+from tests.ask.drawn_repositories import drawn
 
 if TYPE_CHECKING:
     import waitress
     from selenium import webdriver
     from selenium.webdriver.chrome import service
 
-    from svnask.web import hosts, wsgi
+    from svnask.web import hosts, site, wsgi
 else:
     waitress = Lazy("waitress")
     webdriver, service = Lazy("selenium.webdriver"), Lazy("selenium.webdriver.chrome.service")
-    hosts, wsgi = Lazy("svnask.web.hosts"), Lazy("svnask.web.wsgi")
+    hosts, site, wsgi = Lazy("svnask.web.hosts"), Lazy("svnask.web.site"), Lazy("svnask.web.wsgi")
 
 DRIVER = shutil.which("chromedriver") or ""
 LACKING = [name for name in (*web.NEEDED, "selenium") if importlib.util.find_spec(name) is None]
@@ -53,10 +55,12 @@ def browser(has_scripts: bool = True) -> Any:
 
 
 @unittest.skipIf(LACKING, f"not installed: {', '.join(LACKING)}")
-class Pages(base.Case):
-    def setUp(self) -> None:
-        super().setUp()
-        given = parsed([str(base.dump_of("merges")), "web", "--link", "https://host/view{path}?r={revision}"])
+class Browsed(base.Case):
+    """A test of pages in a browser."""
+
+    def serve(self, dump: Path) -> None:
+        """Serve the pages of a dump, and start a browser, which ends before the server does."""
+        given = parsed([str(dump), "web", "--link", "https://host/view{path}?r={revision}"])
         application = wsgi.Application(given, hosts.Hosts())
         server: Any = waitress.create_server(application, host="127.0.0.1", port=0, clear_untrusted_proxy_headers=True)
         self.front = f"http://127.0.0.1:{server.effective_port}"
@@ -76,10 +80,29 @@ class Pages(base.Case):
         self.browser.get(self.front + address)
         base.wait_for(lambda: not self.browser.title.startswith("Please wait"))
 
+    def addresses(self, selector: str) -> list[str]:
+        """The addresses on this server to which the links of some elements lead."""
+        found = self.browser.execute_script(
+            f"return [...document.querySelectorAll('{selector} a[href]')].map((link) => link.href.baseVal || link.href)"
+        )
+        own = (link[len(self.front) * link.startswith(self.front) :] for link in found)
+        return [link for link in dict.fromkeys(own) if link.startswith("/")]
+
     def texts(self, selector: str) -> list[str]:
         """The texts of what can be seen of some elements."""
         found = self.browser.find_elements("css selector", selector)
         return [each.text for each in found if each.is_displayed()]
+
+    def status(self) -> int:
+        """The status with which the page was answered."""
+        found: int = self.browser.execute_script("return performance.getEntriesByType('navigation')[0].responseStatus")
+        return found
+
+
+class Pages(Browsed):
+    def setUp(self) -> None:
+        super().setUp()
+        self.serve(base.dump_of("merges"))
 
     def click(self, selector: str, text: str = "") -> None:
         found = self.browser.find_elements("css selector", selector)
@@ -107,12 +130,7 @@ class Pages(base.Case):
     def test_each_link_opens_a_page(self) -> None:
         for address in ADDRESSES.values():
             self.open(address)
-            links = self.browser.execute_script(
-                "return [...document.querySelectorAll('main a[href]')].map((link) => link.href.baseVal || link.href)"
-            )
-            own = sorted({link[len(self.front) * link.startswith(self.front) :] for link in links} - {""})
-            own = [link for link in own if link.startswith("/")]
-            for link in own[:12]:
+            for link in sorted(self.addresses("main"))[:12]:
                 self.open(link)
                 self.assertNotIn("Not Found", self.browser.title)
                 self.assertEqual(self.browser.get_log("browser"), [], link)
@@ -193,3 +211,62 @@ class Pages(base.Case):
         self.browser.find_element("css selector", "[name=since]").send_keys("9")
         self.click("form.chosen button", "Draw")
         self.assertIn("since=9", self.browser.current_url)
+
+
+class Crawls(Browsed):
+    """All pages of repositories with odd names, nested merges, renames and replacements."""
+
+    # How many pages were opened, and how many of each repository are at most.
+    pages, most = 0, 80
+
+    def check_links(self, dump: Path) -> None:
+        """Open the pages of a dump, each from a link, and compare them with what their links and commands name."""
+        self.serve(dump)
+        left, seen = ["/"], {"/"}
+        while left and len(seen) <= self.most:
+            address = left.pop(0)
+            self.open(address)
+            self.pages += 1
+            self.assertEqual((self.status(), self.browser.get_log("browser")), (200, []), (dump, address))
+            self.check_title(address)
+            for line in self.texts("footer pre"):
+                self.check_command(address, line)
+            new = [link.partition("#")[0] for link in self.addresses("main")]
+            left += [link for link in new if link not in seen and not link.startswith(("/text", "/csv"))]
+            seen.update(new)
+
+    def check_title(self, address: str) -> None:
+        """Check that a page of a path is about what its address names."""
+        path, _, query = address.partition("?")
+        rev = parse_qs(query).get("rev", [""])[0]
+        if path.startswith("/path/") and rev:
+            shown = site.printable(unquote(path[len("/path") :], errors="surrogateescape"))
+            self.assertEqual(self.texts("h1"), [" ".join(f"{shown}@{rev}".split())])
+
+    def check_command(self, address: str, line: str) -> None:
+        """Check that a command prints what its page has."""
+        words = base.words_of(line)
+        done = base.called(*words)
+        self.assertIn(done.status, (0, *[1] * ("check-mergeinfo" in words)), (address, line, done.said))
+        if words[1] == "log" and "--search" not in line:
+            wanted = [f"r{rev}" for rev in map(int, base.HEAD_OF_ENTRY.findall(done.output))]
+            self.assertEqual(self.first_column("Log"), wanted[:50], (address, line))
+        elif words[1] == "contains":
+            self.assertEqual(len(self.first_column("Who has it")), done.output.count(b"\n"), (address, line))
+
+    def first_column(self, heading: str) -> list[str]:
+        """The texts of the first column of the table that follows a heading, if a table does."""
+        found = self.browser.find_elements(
+            "xpath", f"//h2[.='{heading}']/following-sibling::*[self::table or self::h2][1]"
+        )
+        return [
+            each.text.split("↗")[0].strip()
+            for table in found
+            for each in table.find_elements("css selector", "tbody th")
+        ]
+
+    def test_recorded_and_drawn_repositories(self) -> None:
+        for name in ("names", "copies", "projects"):
+            self.check_links(base.dump_of(name))
+        self.drawn(5, drawn, self.check_links)
+        self.assertGreater(self.pages, 150)
