@@ -19,6 +19,7 @@ from tests.ask import base
 from tests.ask.drawn_repositories import drawn, synchronized
 
 TABLES = "source revision change mergeinfo branch ancestor branch_revision merge merge_range other_revision".split()
+TABLES += "changed_tag finding".split()
 HOLDERS = """
 SELECT path, 'history' FROM in_history JOIN branch ON id = branch WHERE revision = ?1 AND is_alive UNION
 SELECT path, CASE is_recorded WHEN 1 THEN 'recorded' ELSE 'merged' END FROM in_merge JOIN branch ON id = branch
@@ -111,17 +112,30 @@ class Exported(base.Case):
         for question, each in zip(asked, wanted):
             self.assertEqual(sorted(rows(path, question)), sorted(each), question)
 
-    def test_changed_tags(self) -> None:
+    def test_events_of_tags_and_findings(self) -> None:
         for name in base.names():
             dump = base.dump_of(name)
             path = self.exported(dump, f"{name}.db")
             wanted = [
-                (each["path"], rev)
-                for each in base.objects(dump, "changed-tags")
-                for rev in each["changed"]
-                if rev > each["first"]
+                (tag["path"], event["revision"], event["what"], event.get("to"))
+                for tag in base.objects(dump, "changed-tags")
+                for event in tag["events"]
             ]
-            self.assertEqual(rows(path, "SELECT path, revision FROM changed_tag ORDER BY 1, 2"), sorted(wanted), name)
+            self.assertEqual(rows(path, "SELECT path, revision, what, to_path FROM changed_tag"), wanted, name)
+            found = [(each["path"], each["source"], each["ranges"]) for each in base.objects(dump, "check-mergeinfo")]
+            self.assertEqual(rows(path, "SELECT path, source, ranges FROM finding"), found, name)
+
+    def test_a_database_of_before(self) -> None:
+        """What is a table now was a view."""
+        dump = base.dump_of("merges")
+        path = self.exported(dump)
+        wanted = self.whole(path)
+        with closing(sqlite3.connect(path)) as opened:
+            opened.executescript(
+                "DROP TABLE changed_tag; DROP TABLE finding; CREATE VIEW changed_tag AS SELECT id FROM branch;"
+                "UPDATE source SET youngest = 18; DELETE FROM revision WHERE number = 19"
+            )
+        self.assertEqual(self.whole(self.exported(dump)), wanted)
 
     def test_synchronized_features(self) -> None:
         def check(dump: Path) -> None:

@@ -15,7 +15,7 @@ from functools import partial
 from typing import Any, NamedTuple
 
 from svnask import __version__
-from svnask.branches.questions import HISTORY, IN_PART, MERGED
+from svnask.branches.questions import HISTORY, IN_PART, MERGED, RENAMED, touched
 from svnask.errors import Failed, Usage
 from svnask.export.others import Chain, Examined, Others
 from svnask.export.schema import DERIVED, INDEX, MADE, TABLES
@@ -23,8 +23,9 @@ from svnask.files import replaced
 from svnask.history.lives import Life, life_in
 from svnask.history.open_history import OpenHistory
 from svnask.log.processes import count_of_processes, made
+from svnask.merges.soundness import findings
 from svnask.picture.graph import Graph, graph_of
-from svnask.projects import kind_of
+from svnask.projects import TAG, kind_of
 from svnask.revisions import Revisions, in_range
 
 # How many revisions are read before they are written.
@@ -116,8 +117,9 @@ def fill(history: OpenHistory, database: sqlite3.Connection, first: int) -> None
     if first > history.head:
         history.check()
         return
-    for each in MADE:
-        database.execute(f"DROP {each.partition(' ')[0]} IF EXISTS {each.partition(' ')[2]}")
+    kinds = dict(database.execute("SELECT name, type FROM sqlite_master"))
+    for name in filter(kinds.__contains__, MADE):
+        database.execute(f"DROP {kinds[name]} {name}")
     database.execute("DELETE FROM source")
     for revisions, found in rows_of_pieces(history, first):
         put(database, "revision", revisions)
@@ -136,6 +138,8 @@ def fill(history: OpenHistory, database: sqlite3.Connection, first: int) -> None
     put(database, "merge", known.merges())
     put(database, "merge_range", known.merge_ranges())
     put(database, "other_revision", known.others())
+    put(database, "changed_tag", known.changed_tags(history))
+    put(database, "finding", findings_of(history))
     put(database, "source", [(history.source.name, text(history.index.uuid), history.head, __version__)])
 
 
@@ -171,6 +175,12 @@ def values(history: OpenHistory, first: int) -> Rows:
     for rev, paths in history.explicit.settings.items():
         if rev >= first:
             yield from ((text(path), rev, text(history.explicit.text(path, rev))) for path in sorted(paths))
+
+
+def findings_of(history: OpenHistory) -> Rows:
+    """Yield what is wrong with values of svn:mergeinfo."""
+    for each in findings(history, []):
+        yield text(each.path), text(each.source), text(each.ranges) or None, each.reason
 
 
 class Branches:
@@ -254,6 +264,13 @@ class Branches:
         for life, (number, lane, _) in self._places.items():
             revisions = self._graph.lanes[lane].revisions
             yield from ((number, rev, lane) for rev in in_range(revisions, life.first, life.last))
+
+    def changed_tags(self, history: OpenHistory) -> Rows:
+        """Yield what happened to tags after they were made."""
+        for tag in touched(history, []) if any(lane.kind == TAG for lane in self._graph.lanes) else ():
+            for event in tag.events:
+                to = event.other[0] if event.what == RENAMED and event.other is not None else None
+                yield self._places[tag.life][0], text(tag.life.path), event.rev, event.what, text(to)
 
     def merges(self) -> Rows:
         for at, each in enumerate(self._graph.merges):

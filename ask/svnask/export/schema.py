@@ -56,6 +56,13 @@ CREATE TABLE other_revision (
     PRIMARY KEY (branch, revision)
 ) {rowless};
 CREATE INDEX other_revision_of_revision ON other_revision (revision);
+CREATE TABLE changed_tag (
+    branch INTEGER NOT NULL REFERENCES branch, path TEXT NOT NULL, revision INTEGER NOT NULL REFERENCES revision,
+    what TEXT NOT NULL, to_path TEXT
+) {strict};
+CREATE TABLE finding (
+    path TEXT NOT NULL, source TEXT, ranges TEXT, reason TEXT NOT NULL
+) {strict};
 
 CREATE VIEW in_history AS
 SELECT ancestor.branch, branch_revision.revision
@@ -83,11 +90,6 @@ WHERE branch.is_alive AND branch.kind = 'branch' AND NOT EXISTS (
     WHERE in_history.revision = branch_revision.revision AND trunk.kind = 'trunk' AND trunk.is_alive
 );
 
-CREATE VIEW changed_tag AS
-SELECT branch.id AS branch, branch.path, branch_revision.revision
-FROM branch JOIN branch_revision ON branch_revision.branch = branch.id AND branch_revision.revision > branch.first
-WHERE branch.kind = 'tag';
-
 CREATE VIEW author_of_file AS
 SELECT change.path, revision.author, count(*) AS changes, max(revision.number) AS last
 FROM change JOIN revision ON revision.number = change.revision
@@ -95,13 +97,6 @@ WHERE change.kind = 'file' GROUP BY change.path, revision.author;
 """
 # What DERIVED makes, those first that others refer to.
 MADE = (
-    *("VIEW author_of_file", "VIEW changed_tag", "VIEW unmerged", "VIEW in_merge", "VIEW in_history"),
-    *(
-        "TABLE other_revision",
-        "TABLE merge_range",
-        "TABLE merge",
-        "TABLE branch_revision",
-        "TABLE ancestor",
-        "TABLE branch",
-    ),
+    *("author_of_file", "unmerged", "in_merge", "in_history", "finding", "changed_tag", "other_revision"),
+    *("merge_range", "merge", "branch_revision", "ancestor", "branch"),
 )
