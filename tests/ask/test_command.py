@@ -108,6 +108,14 @@ class Command(base.Case):
             done = base.called(dump, "log", *words, "trunk")
             self.assertEqual((done.output, done.status in (1, 2)), (b"", True), words)
 
+    def test_words_after_the_options_are_arguments(self) -> None:
+        for words in ("log -q -- trunk lib", "log trunk -q -- lib", "log -- trunk lib -q"):
+            expected = (1, b"") if words.endswith("-q") else base.called(DUMP, "log", "-q", "trunk", "lib")[:2]
+            self.assertEqual(base.called(DUMP, *words.split())[:2], expected, words)
+        self.assertEqual(base.called("--", DUMP, "where", "trunk", "3").output, b"/trunk\n")
+        self.check_unanswered(1, "svnask: E205000: ", "--", DUMP, "where", "trunk", "--")
+        self.check_unanswered(2, "svnask: unrecognized arguments: 4 --\n", DUMP, *"where -- trunk 3 4 --".split())
+
     def test_the_help_of_a_verb_needs_no_dump(self) -> None:
         for verb in HELP:
             done = base.called(verb, "--help")
@@ -165,6 +173,8 @@ class Command(base.Case):
             ("propget svn:mergeinfo nope", "E150000"), ("propget svn:mergeinfo trunk", "E200000"),
             ("propget svn:mergeinfo --strict -v trunk", "E205002"), ("propget svn:mergeinfo --strict -R", "E205000"),
             ("unmerged --log --into nope", "E160013"), ("log -g trunk@99", "E160006"),
+            ("where -- trunk --", "E205000"), ("heirs -- trunk --", "E205000"), ("show -- -x", "E205000"),
+            ("mergeinfo -- trunk --", "E160013"), ("contains -- 5 --", "E160013"), ("log -- trunk@--", "E205000"),
         )
         # fmt: on
         for words, code in rows:

@@ -164,6 +164,23 @@ class Web(base.Case):
                         self.assertIn(got.status, (400, 404), (form, words))
                         self.assertIn(json.loads(got.content)["error"].splitlines()[0], done.said)
 
+    def test_each_value_is_taken_as_what_it_is(self) -> None:
+        opened = self.opened(base.dump_of("branches"))
+        # fmt: off
+        rows = (
+            ("where?path=trunk&rev=--", 400, "E205000: Syntax error in revision argument '--'"),
+            ("mergeinfo?path=trunk&target=--", 404, "path '/--'"), ("heirs?path=trunk&rev=-x", 400, "'-x'"),
+            ("contains?rev=5&pattern=--", 404, "'/--'"), ("log?path=--", 404, "path '/--'"),
+            ("log?path=trunk&limit=--", 400, "E205000: "), ("show?rev=--", 400, "argument '--'"),
+            ("mergeinfo?target=trunk", 400, "takes one path"), ("where?path=trunk&path=3", 400, "takes one path"),
+            ("where?rev=3", 400, "takes one path"), ("new?from=trunk", 400, "takes one to"),
+        )
+        # fmt: on
+        for query, status, said in rows:
+            got = self.got(opened, f"/api/{query}")
+            self.assertEqual(got.status, status, query)
+            self.assertIn(said, json.loads(got.content)["error"])
+
     def test_the_table_of_branches(self) -> None:
         for name in base.names():
             dump = base.dump_of(name)

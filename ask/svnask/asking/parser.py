@@ -5,6 +5,7 @@ import argparse
 import functools
 import os
 import re
+from collections.abc import Sequence
 from typing import TYPE_CHECKING, Any, NoReturn
 
 from svnask import __version__
@@ -25,6 +26,10 @@ NO_VERB = re.compile("argument VERB: invalid choice: '(.*)' \\(choose from", re.
 
 # What it says of arguments that are not there.
 MISSING = "the following arguments are required: "
+
+
+# What stands before a word after `--`, so that it is an argument whatever it is. No word of a command line has it.
+AS_GIVEN = "\0"
 
 
 ABOUT = """\
@@ -61,11 +66,25 @@ class Parser(argparse.ArgumentParser):
         """The options and the arguments that it takes."""
         return self._actions
 
+    def parse_known_args(self, args: Sequence[str] | None = None, namespace: Any = None) -> tuple[Any, list[str]]:
+        """Return what words say, and those that it does not know. Each word after `--` is an argument: argparse would
+        leave out another `--` there."""
+        words = list(args or ())
+        end = words.index("--") if "--" in words else len(words)
+        found, left = super().parse_known_args(words[:end] + [AS_GIVEN + word for word in words[end + 1 :]], namespace)
+        return found, [*map(given_word, left)]
+
     def _get_values(self, action: argparse.Action, arg_strings: list[str]) -> Any:
+        if action.nargs == argparse.PARSER:
+            # The words after the verb are for its own parser.
+            return [super()._get_values(action, arg_strings[:1])[0], *arg_strings[1:]]
         # Before Python 3.12 the value -- of an option was taken for the end of the options.
         if action.option_strings and arg_strings == ["--"]:
             return self._get_value(action, "--")
         return super()._get_values(action, arg_strings)
+
+    def _get_value(self, action: argparse.Action, arg_string: str) -> Any:
+        return super()._get_value(action, given_word(arg_string))
 
     def error(self, message: str) -> NoReturn:
         found = NO_VERB.match(message)
@@ -73,6 +92,11 @@ class Parser(argparse.ArgumentParser):
         if message.startswith(MISSING):
             message += f": '{help_of}' says what they are"
         raise Usage(about_verb(found[1]) if found else message)
+
+
+def given_word(word: str) -> str:
+    """Return a word as it was given."""
+    return word[1:] if word.startswith(AS_GIVEN) else word
 
 
 def about_verb(word: str) -> str:

@@ -90,9 +90,10 @@ def with_source(words: list[str], verbs: Iterable[str]) -> list[str]:
 
 def ordered_words(words: list[str]) -> list[str]:
     """The words with the options that stand after the verb right behind it."""
-    found = places(words)
-    if len(found) < 2 or "--" in words:
+    end = words.index("--") if "--" in words else len(words)
+    found = places(words[:end])
+    if len(found) < 2:
         return words
     verb = found[1]
-    after = words[verb + 1 :]
-    return words[: verb + 1] + sorted(after, key=lambda word: not is_option(word))
+    after = words[verb + 1 : end]
+    return words[: verb + 1] + sorted(after, key=lambda word: not is_option(word)) + words[end:]

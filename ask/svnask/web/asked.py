@@ -48,15 +48,16 @@ def words_of(verb: str, query: Mapping[str, Sequence[str]]) -> list[str]:
     arguments: list[str] = []
     for action in parser_of_verb(verb).actions:
         name = name_of(action)
-        if action.help == SUPPRESS or name in OF_FILES + ENDLESS or name not in left:
+        if action.help == SUPPRESS or name in OF_FILES + ENDLESS:
             continue
-        values = left.pop(name)
-        if not action.option_strings:
-            arguments += values
-        elif action.nargs == 0:
-            options.append(f"--{name}")
-        else:
-            options += [f"--{name}={value}" for value in values]
+        values = left.pop(name, [])
+        if action.option_strings:
+            options += [f"--{name}"] * bool(values) if action.nargs == 0 else [f"--{name}={each}" for each in values]
+            continue
+        if action.nargs is None and len(values) != 1:
+            # Another argument would take its place.
+            raise Usage(f"{verb} takes one {name}")
+        arguments += values
     for name in left:
         raise Usage(f"{verb} takes no {name}")
     return [*options, *["--"] * bool(arguments), *arguments]
