@@ -6,7 +6,7 @@ import functools
 import os
 import re
 from collections.abc import Sequence
-from typing import TYPE_CHECKING, Any, NoReturn
+from typing import IO, TYPE_CHECKING, Any, NoReturn
 
 from svnask import __version__
 from svnask.asking.verbs import EXAMPLE_OF, HELP, verb_named
@@ -60,6 +60,10 @@ class Parser(argparse.ArgumentParser):
     def format_help(self) -> str:
         self.formatter_class = self._formatter
         return super().format_help()
+
+    def _print_message(self, message: str, file: IO[str] | None = None) -> None:
+        # argparse says nothing where that can't be written.
+        print(message, end="", file=file)
 
     @property
     def actions(self) -> list[argparse.Action]:
