@@ -3,6 +3,7 @@ from __future__ import annotations
 
 import inspect
 import re
+import textwrap
 from collections.abc import Iterator
 from types import FunctionType
 from typing import Any
@@ -30,16 +31,23 @@ def parts_of(name: str, found: type[Any]) -> Iterator[str]:
     if found.__name__ != name:
         yield f"## {name}\n\nThe same as `{found.__name__}`.\n"
         return
-    fields = getattr(found, "_fields", None)
+    fields = getattr(found, "_fields", ())
     yield f"## {name}\n"
-    if fields is not None:
-        yield f"`{name}({', '.join(fields)})`\n"
     yield about(found)
+    if fields:
+        yield f"```python\n{fields_of(found)}\n```\n"
     for each, member in sorted(members(found).items()):
-        if not (fields and each in fields) and member.__doc__:
+        if each not in fields:
             yield f"### {each}\n"
             yield f"`{signature(each, member)}`\n"
-            yield about(member)
+            if member.__doc__:
+                yield about(member)
+
+
+def fields_of(found: type[Any]) -> str:
+    """Return the fields of a row with their types, as its class has them."""
+    body = re.split(r"\n    (?:def |@)", inspect.getsource(found), 1)[0]
+    return textwrap.dedent(body.rpartition('"""')[2]).strip()
 
 
 def members(found: type[Any]) -> dict[str, Any]:

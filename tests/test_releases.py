@@ -14,9 +14,9 @@ import shutil
 import sys
 import tarfile
 import zipfile
-from collections.abc import Mapping
+from collections.abc import Iterator, Mapping
 from pathlib import Path
-from typing import Optional
+from typing import Any, Optional
 
 from dev.checks import Checks
 from dev.running import Limits, Outcome, run
@@ -97,16 +97,37 @@ class Versions(Checks):
         self.assertEqual(newest and newest[1], version())
 
 
-class Tarballs(ShownCommands):
-    def test_the_reference_has_all_public_names(self) -> None:
+def texts_of(found: type[Any]) -> Iterator[str]:
+    """Yield the types that a class has of its fields and in its methods, as they are written."""
+    yield from map(str, getattr(found, "__annotations__", {}).values())
+    for member in reference.members(found).values():
+        called = getattr(member, "fget", None) or getattr(member, "__func__", member)
+        yield from map(str, called.__annotations__.values())
+
+
+class Reference(Checks):
+    def test_it_has_all_public_names(self) -> None:
         page = reference.page().decode("utf-8")
         for name in public_names:
             self.assertIn(f"\n## {name}\n", page)
-        for name in ("open", "contains", "segments", "new", "is_whole"):
+        for name in ("open", "contains", "segments", "new", "is_whole", "lines"):
             self.assertIn(f"\n### {name}\n", page)
+        self.assertIn("\nlast_change: int\n", page)
         self.assertEqual(page.count("```python"), page.count("\n```\n"))
         # Where something is in memory is another place in each run.
         self.assertNotIn(" at 0x", page)
+
+    def test_each_type_of_what_callers_get_or_give_is_public(self) -> None:
+        for name in public_names:
+            found = getattr(sys.modules["svnask"], name)
+            known = vars(sys.modules[found.__module__])
+            for word in re.findall(r"\b[A-Z]\w*", " ".join(texts_of(found))):
+                is_own = isinstance(known.get(word), type) and known[word].__module__.startswith("svnask")
+                self.assertTrue(not is_own or word in public_names, (name, word))
+
+
+class Tarballs(ShownCommands):
+    def test_a_tarball_has_the_reference(self) -> None:
         self.assertIn(reference.NAME, [file.path.partition("/")[2] for file in of_tarball(parts_of(self.programs))])
 
     def test_a_tarball_has_the_same_bytes_each_time(self) -> None:

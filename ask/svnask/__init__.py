@@ -17,10 +17,15 @@ import os
 from typing import TYPE_CHECKING
 
 if TYPE_CHECKING:
+    from svnask.branches.gained import Gained
+    from svnask.branches.heirs import Heir, Step
+    from svnask.branches.questions import Holder, Left, Listed, TagEvent, Touched
     from svnask.copy.changes import Change
+    from svnask.copy.sections import Setting
     from svnask.copy.store import Record, Revision
     from svnask.engine.queries import (
         Answer,
+        Answers,
         Inherited,
         Line,
         Locate,
@@ -37,21 +42,38 @@ if TYPE_CHECKING:
         Segments,
         Where,
     )
-    from svnask.errors import Denied, Error, Failed, Refused, Unreached
+    from svnask.errors import Denied, Error, Failed, Refused, Unreached, Usage
+    from svnask.history.lives import Life
+    from svnask.merges.soundness import Finding
+    from svnask.picture.graph import Dot, Graph, Lane, LaneCopy, LaneMerge, LeftOut, View
     from svnask.public import History
 
 __all__ = [
     "Answer",
+    "Answers",
     "Change",
     "Denied",
+    "Dot",
     "Error",
     "Failed",
+    "Finding",
+    "Gained",
+    "Graph",
+    "Heir",
     "History",
+    "Holder",
     "Inherited",
+    "Lane",
+    "LaneCopy",
+    "LaneMerge",
+    "Left",
+    "LeftOut",
+    "Life",
     "Line",
-    "LocationSegments",
+    "Listed",
     "Locate",
     "Located",
+    "LocationSegments",
     "Log",
     "Logged",
     "Merge",
@@ -64,19 +86,32 @@ __all__ = [
     "Revision",
     "Segment",
     "Segments",
+    "Setting",
+    "Step",
+    "TagEvent",
+    "Touched",
     "Unreached",
+    "Usage",
+    "View",
     "Where",
 ]
 # Where each name is. A module is imported when a name of it is used: a question to a server needs none.
 _MODULES = {
+    "branches.gained": "Gained",
+    "branches.heirs": "Heir Step",
+    "branches.questions": "Holder Left Listed TagEvent Touched",
+    "copy.changes": "Change",
+    "copy.sections": "Setting",
+    "copy.store": "Record Revision",
     "engine.queries": (
-        "Answer Inherited Line Locate Located LocationSegments Log Logged Merge Mergeinfo Merges Pair Query "
+        "Answer Answers Inherited Line Locate Located LocationSegments Log Logged Merge Mergeinfo Merges Pair Query "
         "Segment Segments Where"
     ),
-    "copy.changes": "Change",
-    "errors": "Denied Error Failed Refused Unreached",
+    "errors": "Denied Error Failed Refused Unreached Usage",
+    "history.lives": "Life",
+    "merges.soundness": "Finding",
+    "picture.graph": "Dot Graph Lane LaneCopy LaneMerge LeftOut View",
     "public": "History",
-    "copy.store": "Record Revision",
 }
 _PLACES = {name: module for module, names in _MODULES.items() for name in names.split()}
 # Without pathlib, which takes longer to import than the whole file to read.

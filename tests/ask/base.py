@@ -22,6 +22,9 @@ from dev.dumps import Properties, revision_properties
 from dev.tree import INTEROP, SVNASK, programs
 from svnask import History
 from svnask.cli import main
+from svnask.history.open_history import OpenHistory
+from svnask.sources.opening import source_of
+from svnask.sources.progress import Progress
 from tests.base import FolderTest, ProgramTest
 from tests.lots import check_drawn
 
@@ -99,6 +102,12 @@ def called(*words: Word, **variables: str) -> Done:
 def objects(*words: Word) -> list[dict[str, Any]]:
     """Return the objects of a question."""
     return called("--json", *words).objects
+
+
+def opened(dump: Word, is_cached: bool = True) -> OpenHistory:
+    """Open a history, with what is not for callers."""
+    with contextlib.closing(source_of(os.fspath(dump))) as source:
+        return OpenHistory.of(source, Progress(), is_cached)
 
 
 @contextlib.contextmanager
@@ -207,5 +216,8 @@ class Case(UtcTest, ProgramTest):
 
         check_drawn(count, draw, check_one)
 
-    def history(self, dump: Path) -> History:
+    def history(self, dump: Path) -> OpenHistory:
+        return self.histories.enter_context(opened(dump))
+
+    def public_history(self, dump: Path) -> History:
         return self.histories.enter_context(History.open(str(dump)))

@@ -10,7 +10,6 @@ from svnask.asking.words import source_word
 from svnask.serving import client
 from svnask.sources import subversion as repositories
 from svnask.sources.access import of_asker
-from svnask.sources.progress import Told
 from tests.ask import base, grown
 
 ALL = "[/]\nalice = rw\nbob = r\n"
@@ -145,10 +144,10 @@ class Messages(base.Case):
         self.assertEqual(base.called(self.repository, "update", "--properties").status, 0)
 
     def test_in_the_module(self) -> None:
-        with self.history(self.repository) as history:
+        with self.public_history(self.repository) as history:
             self.assertEqual(history.revision(1).message, b"Old")
             self.reword()
-            history.renew(history.source, Told(lambda read: None))
+            history.renew()
             self.assertEqual(history.revision(1).message, b"New")
 
     def test_in_a_server(self) -> None:

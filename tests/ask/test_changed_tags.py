@@ -53,7 +53,7 @@ class ChangedTags(base.Case):
     def check(self, dump: Path) -> None:
         known = Plain(dump.read_bytes())
         found: dict[bytes, Events] = {}
-        for tag in self.history(dump).changed_tags([b"/*", b"/*/*"]):
+        for tag in self.public_history(dump).changed_tags([b"/*", b"/*/*"]):
             found.setdefault(tag.life.path, set()).update((each.rev, each.what) for each in tag.events)
         for path in {path for tree in known.history.trees for path in tree if 1 <= len(path) <= 2}:
             wanted = events_of(known, path)

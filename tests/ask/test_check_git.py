@@ -7,10 +7,10 @@ from collections.abc import Iterable, Iterator
 from typing import Callable
 
 from dev.running import run
-from svnask import History
 from svnask.export.contents import files_at
 from svnask.export.git import time_of
 from svnask.export.migration import NamedLife, named_lives
+from svnask.history.open_history import OpenHistory
 from svnask.picture.branch_merges import WHOLE, merges_of
 from svnask.picture.graph import Graph, graph_of
 from tests.ask import base
@@ -20,7 +20,7 @@ Commit = tuple[bytes, int, bytes, bytes, set[bytes], list[bytes]]
 Change = Callable[[list[Commit]], list[Commit]]
 
 
-def commits_of(history: History) -> Iterator[Commit]:
+def commits_of(history: OpenHistory) -> Iterator[Commit]:
     """Yield the commits that a good migration makes, by their revisions."""
     graph: Graph = graph_of(history, [])
     names = {each.life: ref_of(each) for each in named_lives(life for lane in graph.lanes for life in lane.lives)}
@@ -40,7 +40,7 @@ def ref_of(named: NamedLife) -> bytes:
     return (b"refs/tags/" if named.kind == "tag" else b"refs/heads/") + named.name
 
 
-def stream_of(history: History, commits: Iterable[Commit]) -> Iterator[bytes]:
+def stream_of(history: OpenHistory, commits: Iterable[Commit]) -> Iterator[bytes]:
     """Yield what `git fast-import` reads."""
     known: set[bytes] = set()
     for name, rev, author, message, files, merged in commits:
@@ -60,7 +60,7 @@ class Migrated(base.Case):
         """Return what differs in a good migration in which something was changed."""
         dump, folder = base.dump_of(name), self.folder / "git"
         shutil.rmtree(folder, ignore_errors=True)
-        with History.open(str(dump)) as history:
+        with base.opened(dump) as history:
             stream = b"".join(stream_of(history, change(list(commits_of(history)))))
         self.assertEqual(run(["git", "init", "-q", folder]).status, 0)
         done = run(["git", "-C", folder, "fast-import", "--quiet"], stream)

@@ -277,8 +277,8 @@ class Command(base.Case):
         self.assertEqual((done.returncode, done.stderr, os.listdir(self.temporary())), (-signal.SIGPIPE, b"", []))
 
     def test_a_full_disk_for_the_output_has_status_3(self) -> None:
-        full = Path("/dev/full")
-        for words in ([DUMP, "log", "/"], ["--help"], ["where", "--help"], ["--version"]):
+        full, dump = Path("/dev/full"), str(DUMP)
+        for words in ([dump, "log", "/"], ["--help"], ["where", "--help"], ["--version"]):
             for unbuffered in (None, "1"):
                 done = running.run(base.command(*words), taker=full, environment={"PYTHONUNBUFFERED": unbuffered})
                 self.assertEqual((done.status, done.errors[:21]), (3, b"svnask: cannot write:"), (words, unbuffered))

@@ -17,7 +17,7 @@ from unittest import mock
 from dev import running
 from dev.dumps import DIR, Node, Source, added, changed, deleted, dump_of
 from dev.tree import ROOT
-from svnask import History, files
+from svnask import files
 from svnask.asking.parser import parser
 from svnask.asking.verbs import EXAMPLE_OF, HELP
 from svnask.cli import command, completion
@@ -262,7 +262,7 @@ class Branches(base.UtcTest):
     def test_they_are_those_of_the_recorded_repositories(self) -> None:
         for name in base.names():
             dump = str(base.dump_of(name))
-            with History.open(dump) as history:
+            with base.opened(dump) as history:
                 if not history.is_whole:
                     continue
                 patterns = (b"/trunk", b"/branches/*", b"/tags/*")

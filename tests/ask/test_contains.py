@@ -3,11 +3,10 @@ from __future__ import annotations
 
 from pathlib import Path
 
-from svnask import History
-from svnask.errors import Denied
-
 from dev.dumps import FILE, added, changed, deleted, dump_of, mergeinfo, section
 from model import definitions as plain
+from svnask import History
+from svnask.errors import Denied
 from tests.ask import base
 from tests.ask.drawn_repositories import drawn, synchronized
 from tests.ask.plain_histories import Held, Plain
@@ -24,7 +23,7 @@ class Contains(base.Case):
 
     def check(self, dump: Path) -> None:
         """Compare the paths at most two deep, today and in an older revision."""
-        history, known = self.history(dump), Plain(dump.read_bytes())
+        history, known = self.public_history(dump), Plain(dump.read_bytes())
         head = len(known.records) - 1
         self.check_peg(history, known, head // 2, head // 2)
         self.check_peg(history, known, head, None)
@@ -40,7 +39,7 @@ class Contains(base.Case):
         for rev in range(1, head + 1):
             found = {each.path: each.how for each in history.contains(rev, [b"/*", b"/*/*"], peg)}
             for printed, held in wanted.items():
-                self.assertEqual(found.get(printed), how_held(held, rev), (history.source.name, peg, rev, printed))
+                self.assertEqual(found.get(printed), how_held(held, rev), (peg, rev, printed))
             self.held += len(found)
 
     def test_drawn_histories(self) -> None:
@@ -60,7 +59,7 @@ class Contains(base.Case):
         self.assertEqual(base.called("--csv", dump, "contains", "5", "branches/two@8", "trunk@").output, table)
         done = base.called(dump, "contains", "5", "trunk@20")
         self.assertEqual((done.status, done.said), (1, "svnask: E160006: No such revision 20\n"))
-        self.assertRaises(Denied, self.history(dump).contains, 5, [b"/trunk"], 20)
+        self.assertRaises(Denied, self.public_history(dump).contains, 5, [b"/trunk"], 20)
 
     def test_revisions_may_be_named_as_for_a_log(self) -> None:
         dump = base.dump_of("merges")
@@ -89,6 +88,6 @@ class Contains(base.Case):
             [deleted(b"trunk/a")],
             [changed(b"branches/b", value), added(b"branches/b/f", FILE)],
         )
-        history = self.history(self.made("dump", dump))
+        history = self.public_history(self.made("dump", dump))
         held = [[each.how for each in history.contains(rev, [b"branches/b"])] for rev in range(2, 6)]
         self.assertEqual(held, [["merged"], [], [], []])

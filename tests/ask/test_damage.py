@@ -8,9 +8,9 @@ from collections.abc import Callable
 from pathlib import Path
 from unittest import mock
 
-from svnask import History
 from svnask.copy.store import Store
 from svnask.errors import Damaged
+from svnask.history.open_history import OpenHistory
 from tests.ask import base
 
 QUESTIONS = (
@@ -66,7 +66,7 @@ class Damage(base.Case):
 
     def test_what_an_open_history_reads_is_as_it_was_written(self) -> None:
         dump = self.made("dump", base.content_of("merges"))
-        reads: tuple[Callable[[History], object], ...] = (
+        reads: tuple[Callable[[OpenHistory], object], ...] = (
             lambda history: history.revision(5),
             lambda history: history.changes(5),
             lambda history: list(history.records()),
@@ -77,14 +77,14 @@ class Damage(base.Case):
             lambda history: list(history.revisions_beyond(b"/trunk", 3, 6)),
         )
         for read in reads:
-            with History.open(str(dump)) as history:
+            with base.opened(dump) as history:
                 self.damage(5)
                 self.assertEqual(history.revision(4).author, b"bob")
                 self.assertRaises(Damaged, read, history)
 
     def test_a_walk_ends_where_the_next_revision_begins(self) -> None:
         dump = self.made("dump", base.content_of("merges"))
-        with History.open(str(dump)) as history:
+        with base.opened(dump) as history:
             history.index.revisions[6] += 2
             with mock.patch.object(Store, "_sum", lambda store, first, last: 0):
                 history.index.sums[:] = [0] * len(history.index.sums)

@@ -16,7 +16,8 @@ class Examples(base.Case):
     def test_each_example_gives_what_it_shows(self) -> None:
         self.addCleanup(os.chdir, os.getcwd())
         os.chdir(ROOT)
-        history = self.history(base.dump_of("branches"))
+        dump = base.dump_of("branches")
+        internal, public = self.history(dump), self.public_history(dump)
         names = ["svnask"] + [found.name for found in pkgutil.walk_packages(svnask.__path__, "svnask.")]
         count = 0
         for name in names:
@@ -27,8 +28,9 @@ class Examples(base.Case):
                 if error.name not in web.NEEDED:
                     raise
                 continue
+            history = public if name == svnask.History.__module__ else internal
             # Where nothing is said, `-v` of the tests would have it print each example.
-            done = doctest.testmod(module, verbose=False, extraglobs={"history": history, "History": svnask.History})
+            done = doctest.testmod(module, verbose=False, extraglobs={"history": history})
             self.assertEqual(done.failed, 0, name)
             count += done.attempted
         self.assertGreater(count, 20)

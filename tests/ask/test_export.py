@@ -12,7 +12,6 @@ from typing import Any
 from unittest import mock
 
 from dev.tree import DOCS
-from svnask import History
 from svnask.branches.questions import IN_PART, holders_of_all
 from svnask.export import database
 from tests.ask import base
@@ -139,7 +138,7 @@ class Exported(base.Case):
 
     def test_synchronized_features(self) -> None:
         def check(dump: Path) -> None:
-            with History.open(str(dump), is_cached=False) as history:
+            with base.opened(dump, is_cached=False) as history:
                 head = history.head
             self.check_holders(dump, self.exported(dump, f"{dump.name}.db"), range(1, head + 1, 3))
 
@@ -150,7 +149,7 @@ class Exported(base.Case):
 
         def check(dump: Path) -> None:
             path = self.folder / f"{dump.name}.db"
-            with History.open(str(dump), is_cached=False) as history:
+            with base.opened(dump, is_cached=False) as history:
                 database.export(history, str(path))
                 held = holders_of_all(history, [], range(1, history.head + 1))
                 wanted = {(each.rev, database.text(each.holder.path)): each.holder.how for each in held}

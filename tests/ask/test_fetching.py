@@ -18,6 +18,7 @@ from dev.dumps import FILE, added, changed, copied, deleted, dump_of, mergeinfo,
 from dev.tree import ROOT
 from svnask import History, Record
 from svnask.copy.sections import Setting
+from svnask.history.open_history import OpenHistory
 from svnask.sources import commands, fetching, logged, values
 from svnask.sources.access import Access
 from svnask.sources.opening import source_of
@@ -37,7 +38,7 @@ def record_of(record: Record) -> tuple[object, ...]:
     return *order, record.kind, record.source, given
 
 
-def all_of(history: History) -> tuple[list[tuple[object, ...]], list[dict[bytes, bytes]]]:
+def all_of(history: OpenHistory) -> tuple[list[tuple[object, ...]], list[dict[bytes, bytes]]]:
     """Return the records of a history in the order of their paths, and the properties of its revisions."""
     records = sorted(map(record_of, history.records()), key=lambda each: each[:3])
     return records, [history.revision(rev).properties for rev in range(history.head + 1)]
@@ -59,10 +60,10 @@ class Case(base.Case):
     def check(self, repository: Path, *names: str) -> None:
         """Check that a repository has the same records by these names as by its dump."""
         dump = self.made("dump", grown.svn("svnadmin", "dump", "-q", repository).output)
-        with History.open(str(dump), is_cached=False) as history:
+        with base.opened(dump, is_cached=False) as history:
             expected = all_of(history)
         for name in names:
-            with closing(source_of(name, ALICE)) as source, History.of(source, Progress()) as history:
+            with closing(source_of(name, ALICE)) as source, OpenHistory.of(source, Progress()) as history:
                 self.assertEqual(all_of(history), expected, name)
 
 

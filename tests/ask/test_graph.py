@@ -28,7 +28,7 @@ from dev.dumps import (
     section,
 )
 from dev.tree import DOCS
-from svnask import History
+from svnask.history.open_history import OpenHistory
 from svnask.picture import svg as picture
 from svnask.picture.fitting import fitted
 from svnask.picture.graph import MOST_OTHERS, Graph, LaneMerge, View, drawable, graph_of
@@ -62,7 +62,7 @@ document.body.textContent = JSON.stringify([boxes.length, found]);
 </script>"""
 
 
-def drawn(history: History, patterns: Sequence[bytes] = (), view: View = View()) -> ElementTree.Element:
+def drawn(history: OpenHistory, patterns: Sequence[bytes] = (), view: View = View()) -> ElementTree.Element:
     return ElementTree.fromstring(b"".join(picture.svg_of(history, graph_of(history, patterns, view))))
 
 

@@ -4,10 +4,10 @@ from __future__ import annotations
 from collections.abc import Iterator
 from pathlib import Path
 
-from svnask import History
 from svnask.branches.heirs import heirs
 from svnask.engine.queries import Locate
 from svnask.history.lives import Tree
+from svnask.history.open_history import OpenHistory
 from svnask.history.targets import Target
 from tests.ask import base
 from tests.ask.drawn_repositories import drawn
@@ -24,7 +24,7 @@ def all_paths(tree: Tree) -> Iterator[bytes]:
 class Paths:
     """All paths that ever were, and which of them are in a revision, by the records."""
 
-    def __init__(self, history: History) -> None:
+    def __init__(self, history: OpenHistory) -> None:
         self.history = history
         self.tree = Tree(history.records())
         self.lives = {path: list(self.tree.lives(path, history.head)) for path in all_paths(self.tree)}

@@ -2,13 +2,11 @@
 from __future__ import annotations
 
 import os
-import warnings
 from collections.abc import Sequence
 
 from dev import running
 from dev.dumps import FILE, Node, added, changed, copied, deleted, dump_of, mergeinfo
 from svnask import projects
-from svnask.errors import Denied
 from svnask.history.lives import Tree
 from tests.ask import base
 
@@ -135,22 +133,6 @@ class Tags(base.Case):
         )
         for changes, wanted in rows:
             self.assertEqual(self.events(*changes), wanted)
-
-
-class Module(base.Case):
-    def test_errors_and_warnings(self) -> None:
-        history = self.history(base.dump_of("branches"))
-        for rev in (-1, 14, 99999):
-            with self.assertRaises(Denied):
-                history.contains(rev)
-            with self.assertRaises(Denied):
-                history.revision(rev)
-            with self.assertRaises(Denied):
-                history.changes(rev)
-        with warnings.catch_warnings(record=True) as found:
-            warnings.simplefilter("always")
-            self.assertEqual(history.branches([b"/nope*"]), [])
-        self.assertEqual([str(each.message) for each in found], ["no path matches '/nope*'"])
 
 
 class Kept(base.Case):

@@ -7,13 +7,13 @@ from typing import NamedTuple, Optional
 from unittest import mock
 
 from dev.dumps import FILE, added, changed, copied, dump_of, mergeinfo
-from svnask import History
 from svnask.branches import questions as branches
 from svnask.engine import talk as engine
 from svnask.engine.queries import Answer, LocationSegments, Log, Logged
 from svnask.engine.queries import Merges as Merged
 from svnask.engine.queries import Pair, Query, Segments
 from svnask.history.lives import Life
+from svnask.history.open_history import OpenHistory
 from svnask.history.targets import Target
 from svnask.merges import gains as merges
 from svnask.merges import show_revs, value_changes
@@ -37,7 +37,7 @@ class Found(NamedTuple):
     is_carried: bool
 
 
-def gains(history: History, patterns: Sequence[bytes] = ()) -> list[Gain]:
+def gains(history: OpenHistory, patterns: Sequence[bytes] = ()) -> list[Gain]:
     lives = branches.lives_of(history, patterns)
     asked = [
         merges.LifeQuery(life, each) for life in lives for each in merges.queries_about_life(history.explicit, life)
@@ -63,7 +63,7 @@ def held_in(rev: int, found: list[Gain]) -> set[int]:
     return {each for gain in held for each in gain.revisions}
 
 
-def merged(history: History, source: Life, targets: list[Place]) -> list[set[int]]:
+def merged(history: OpenHistory, source: Life, targets: list[Place]) -> list[set[int]]:
     """Return what svnhist says was merged from a life into each target, but for what that had in its own history."""
     bounds = source.first, source.last
     merged_of = history.ask([Pair(source.path, source.last, "merged", *target, bounds) for target in targets])
@@ -219,7 +219,7 @@ class Unmerged(base.Case):
             found = {each.left.path: each.left.revisions for each in branches.unmerged(history, patterns, target)}
             self.assertEqual(found, dict(self.eligible(history, alive, target)))
 
-    def eligible(self, history: History, alive: list[Life], target: Target) -> Iterator[tuple[bytes, object]]:
+    def eligible(self, history: OpenHistory, alive: list[Life], target: Target) -> Iterator[tuple[bytes, object]]:
         question = show_revs.Question("eligible")
         for source in (Target(life.path, history.head) for life in alive if life.path != target.path):
             answers = history.answers(show_revs.queries_of_question(history.explicit, source, target, question))

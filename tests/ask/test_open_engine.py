@@ -12,10 +12,10 @@ from pathlib import Path
 from unittest import mock
 
 from dev.dumps import Dump, Revision, added, changed, dump_of, mergeinfo
-from svnask import History
 from svnask.engine import talk as engine
 from svnask.engine.queries import Answer, Line, Locate, LocationSegments, Log, Logged, Query
 from svnask.errors import Denied, Failed, Refused
+from svnask.history.open_history import OpenHistory
 from svnask.sources.opening import source_of
 from svnask.sources.progress import Progress
 from tests.ask import base
@@ -133,7 +133,7 @@ class OpenEngine(base.Case):
     def test_threads_may_ask_at_once(self) -> None:
         found: list[int] = []
 
-        def ask(history: History) -> None:
+        def ask(history: OpenHistory) -> None:
             for number in range(20):
                 rev = 13 - number % 3
                 queries: list[Query[Answer]] = [Log(b"trunk", rev), LocationSegments(b"trunk", rev)]
@@ -164,7 +164,7 @@ class OpenEngine(base.Case):
         self.assertEqual(len(self.started), 1)
 
     def test_a_history_that_nobody_closes_ends_it(self) -> None:
-        history = History.open(str(DUMP))
+        history = base.opened(DUMP)
         self.assertEqual(history.log(b"trunk", 13).revisions, TRUNK)
         del history
         self.check_ends()

@@ -3,17 +3,17 @@ from __future__ import annotations
 
 from dev.tree import INTEROP
 from interop import outputs
-from svnask import History
 from svnask.asking.parser import parser
 from svnask.asking.running import answer_lines
 from svnask.asking.verbs import HELP, verb_named
 from svnask.errors import Error
+from svnask.history.open_history import OpenHistory
 from tests.ask import base
 
 PROJECTS = INTEROP / "projects.svnask"
 
 
-def output_of(history: History, arguments: list[str]) -> outputs.Output:
+def output_of(history: OpenHistory, arguments: list[str]) -> outputs.Output:
     """Return what svnask prints, in the form of a recorded output."""
     try:
         words = parser(arguments[0]).parse_args(["DUMP"] + arguments)

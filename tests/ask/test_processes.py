@@ -12,7 +12,7 @@ from typing import Any, Callable
 from unittest import mock
 
 from dev.dumps import FILE, added, changed, dump_of
-from svnask import History
+from svnask.history.open_history import OpenHistory
 from svnask.log import forms as log_forms
 from svnask.log import processes
 from svnask.log.processes import made
@@ -156,7 +156,7 @@ class LongLogs(base.Case):
             with mock.patch.object(processes, "Maker", wraps=processes.Maker) as maker:
                 done = base.called(*words)
             self.assertEqual((done.status, done.said), (0, ""), words)
-            with mock.patch.object(History, "is_last_question", False, create=True), mock.patch.object(
+            with mock.patch.object(OpenHistory, "is_last_question", False, create=True), mock.patch.object(
                 log_forms, "LONG", 1 << 30
             ):
                 self.assertEqual(base.called(*words), done, words)

@@ -9,7 +9,6 @@ from unittest import mock
 
 from dev.dumps import FILE, Revision, added, first_lines
 from dev.tree import INTEROP
-from svnask import History
 from svnask.copy.strip import Stripper
 from svnask.copy.window import Window
 from svnask.engine.queries import Line
@@ -90,7 +89,7 @@ class Reading(base.Case):
     def check_refusal(self, content: bytes) -> None:
         dump = self.made("dump", content)
         try:
-            with History.open(str(dump)) as history:
+            with base.opened(dump) as history:
                 history.check()
             found = ""
         except Refused as refused:
@@ -201,7 +200,7 @@ class Reading(base.Case):
             for is_cached in (True, False):
                 dump = self.made("dump", content)
                 with mock.patch.object(Window, "_fill", cut), self.assertRaises(Failed):
-                    History.open(str(dump), is_cached)
+                    base.opened(dump, is_cached)
                 self.assertEqual(list(self.cache.glob("svnhist/*")), [])
 
     def test_a_cache_that_cannot_be_written_is_done_without(self) -> None:

@@ -53,9 +53,10 @@ class LaneCopy(NamedTuple):
 
 
 class LaneMerge(NamedTuple):
-    """A merge into a lane: an arrow from the newest revision. See `Gain`. `of` and `into` are the merged path and the
-    path merged into, where they are below those of the lanes. `is_record_only` says that the revision changed only
-    mergeinfo there."""
+    """A merge of revisions of a lane into another one, in one revision. `lost` is the one in which the mergeinfo there
+    lost them again, and `is_carried` says that another source which was merged then had them by a merge of its own.
+    `of` and `into` are the merged path and the path merged into, where they are below those of the lanes.
+    `is_record_only` says that the revision changed only mergeinfo there."""
 
     source: int
     target: int
