@@ -6,6 +6,7 @@ import os
 import subprocess
 
 from dev.dumps import added, changed, dump_of, section
+from svnask import History, Usage
 from svnask.asking.words import source_word
 from svnask.serving import client
 from svnask.sources import subversion as repositories
@@ -52,6 +53,18 @@ class Askers(base.Case):
             )
             self.assertEqual(base.called(*user("bob"), url, "forget").status, 0)
             self.assertEqual(base.called("sources").output.decode().count("\n"), 1)
+
+    def test_options_of_the_module_are_words_of_a_command_line(self) -> None:
+        with grown.svnserve(self.parent, "none", self.rules) as server:
+            url = f"{server}/repository"
+            for name, paths in (("alice", [b"/secret", b"/trunk"]), ("bob", [b"/trunk"])):
+                for options in (user(name), [f"--username={name}", *user(name)[2:]]):
+                    with History.open(url, options=options) as history:
+                        self.assertEqual([change.path for change in history.changes(1)], paths)
+            self.assertEqual(base.called("sources").output.decode().count(" --username="), 2)
+            for wrong in ("--username", "log", "--json", "--help", "--offline", "--", "--non-interactive=x", "--user=bob"):
+                with self.assertRaisesRegex(Usage, f": {wrong}$"):
+                    History.open(url, options=[*user("bob"), wrong])
 
     def test_a_server_answers_who_started_it(self) -> None:
         with grown.svnserve(self.parent, "none", self.rules) as server:

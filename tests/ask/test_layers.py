@@ -9,7 +9,7 @@ from pathlib import Path
 from dev.tree import ROOT
 
 # The packages, and the modules at the top that others stand above, from the lowest one. Each uses those before it.
-LAYERS = "top copy engine sources mergeinfo history log merges merged_log branches picture export public asking serving web cli".split()
+LAYERS = "top copy engine sources mergeinfo history log merges merged_log branches picture export asking public serving web cli".split()
 
 
 def layer_of(module: str) -> str:

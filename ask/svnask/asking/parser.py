@@ -10,10 +10,10 @@ from typing import IO, TYPE_CHECKING, Any, NoReturn
 
 from svnask import __version__
 from svnask.asking.verbs import EXAMPLE_OF, HELP, verb_named
-from svnask.asking.words import OF_ALL, joined_options, ordered_words, places, with_source
+from svnask.asking.words import OF_ALL, ordered_words, places, split_access, with_source
 from svnask.errors import Usage
 from svnask.lazy import Lazy
-from svnask.sources.access import REACHED, REACHED_ALONE, Access, split_access
+from svnask.sources.access import REACHED, REACHED_ALONE
 
 if TYPE_CHECKING:
     import difflib
@@ -148,11 +148,11 @@ def parser_of_verb(name: str) -> Parser:
 
 def parsed(words: list[str]) -> argparse.Namespace:
     """Return what a command line says. `SystemExit` where it is a call for help, which was printed."""
-    access, left = split_access(joined_options(words))
+    access, left = split_access(words)
     ready = with_source(help_words(left), HELP)
     need_source(ready)
     asked = next((ready[at] for at in places(ready)[1:2] if ready[at] in HELP), None)
-    found = parser(asked).parse_args(ordered_words(ready), argparse.Namespace(access=Access(access)))
+    found = parser(asked).parse_args(ordered_words(ready), argparse.Namespace(access=access))
     if found.csv and found.json:
         raise Usage("--csv and --json exclude each other")
     if found.csv:

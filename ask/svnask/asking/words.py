@@ -5,8 +5,9 @@ from __future__ import annotations
 import re
 from collections.abc import Iterable, Sequence
 
+from svnask.errors import Usage
 from svnask.paths import split_peg
-from svnask.sources.access import IS_URL, REACHED, split_access
+from svnask.sources.access import IS_URL, REACHED, REACHED_ALONE, Access
 
 # The options that take a value, and the names of those that have a short one.
 LONG = {"-r": "--revision", "-c": "--change", "-l": "--limit", "-o": "--output"}
@@ -55,9 +56,25 @@ def joined_options(arguments: Iterable[str]) -> list[str]:
     return found
 
 
-def source_word(words: Sequence[str]) -> tuple[str, tuple[str, ...]] | None:
+def split_access(arguments: Iterable[str]) -> tuple[Access, list[str]]:
+    """The options by which a repository is reached, and the other words, joined."""
+    words = joined_options(arguments)
+    end = words.index("--") if "--" in words else len(words)
+    own = [word for word in words[:end] if word in REACHED_ALONE or "=" in word and word.partition("=")[0] in REACHED]
+    return Access(tuple(own)), [word for word in words[:end] if word not in own] + words[end:]
+
+
+def access_of(options: Iterable[str]) -> Access:
+    """The options by which a repository is reached, of which there are no other words."""
+    access, left = split_access(options)
+    if left:
+        raise Usage("no option by which a repository is reached: " + " ".join(left))
+    return access
+
+
+def source_word(words: Sequence[str]) -> tuple[str, Access] | None:
     """The word that is the source of a command line, if it has one, and the options by which that is reached."""
-    access, left = split_access(joined_options(words))
+    access, left = split_access(words)
     ready = with_source(left, ())
     at = places(ready)
     return (ready[at[0]], access) if at else None

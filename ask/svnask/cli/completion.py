@@ -23,14 +23,14 @@ from typing import NamedTuple
 
 from svnask.asking.parser import parser, parser_of_verb
 from svnask.asking.verbs import HELP
-from svnask.asking.words import OF_ALL, WITH_URLS, is_option, joined_options
+from svnask.asking.words import OF_ALL, WITH_URLS, is_option, split_access
 from svnask.copy.branch_names import kept_branches
 from svnask.copy.index import Front
 from svnask.files import cache_folder
 from svnask.history.targets import path_in, path_of
 from svnask.paths import split_peg
 from svnask.sources import cache
-from svnask.sources.access import IS_URL, REACHED, REACHED_ALONE, of_asker, split_access
+from svnask.sources.access import IS_URL, REACHED, REACHED_ALONE, of_asker
 from svnask.sources.dump import Dump
 from svnask.sources.entries import Entry, read_front
 from svnask.sources.repository import Address, Folder
@@ -169,7 +169,7 @@ def typed_of(words: Sequence[str]) -> Typed:
             has_ended = True
         elif takes_value(verb_of(plain), word):
             option = word
-    return Typed(plain, option, has_ended, top, split_access(joined_options(words))[0])
+    return Typed(plain, option, has_ended, top, split_access(words)[0].words)
 
 
 def verb_words(names: Iterable[str]) -> list[Word]:

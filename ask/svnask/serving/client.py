@@ -72,7 +72,8 @@ def ask_server(words: Sequence[str]) -> ServerReply | None:
     if source is None or not OWN.isdisjoint(words):
         return None
     try:
-        connection = connection_of(*source)
+        name, access = source
+        connection = connection_of(name, access.words)
         if connection is None:
             return None
         with connection:

@@ -22,13 +22,6 @@ ASKER = ("--username", "--config-dir", "--config-option")
 IS_URL = re.compile(r"[A-Za-z][A-Za-z0-9+.-]*://")
 
 
-def split_access(words: list[str]) -> tuple[tuple[str, ...], list[str]]:
-    """The options by which a repository is reached, and the other words."""
-    end = words.index("--") if "--" in words else len(words)
-    own = [word for word in words[:end] if word in REACHED_ALONE or "=" in word and word.partition("=")[0] in REACHED]
-    return tuple(own), [word for word in words[:end] if word not in own] + words[end:]
-
-
 def of_asker(url: str, access: Sequence[str]) -> str:
     """The URL of a repository with the options that say who asks, since a server may show each user another history.
     Options of a configuration may have a password, so their checksum stands for them."""
