@@ -62,7 +62,16 @@ class Askers(base.Case):
                     with History.open(url, options=options) as history:
                         self.assertEqual([change.path for change in history.changes(1)], paths)
             self.assertEqual(base.called("sources").output.decode().count(" --username="), 2)
-            for wrong in ("--username", "log", "--json", "--help", "--offline", "--", "--non-interactive=x", "--user=bob"):
+            for wrong in (
+                "--username",
+                "log",
+                "--json",
+                "--help",
+                "--offline",
+                "--",
+                "--non-interactive=x",
+                "--user=bob",
+            ):
                 with self.assertRaisesRegex(Usage, f": {wrong}$"):
                     History.open(url, options=[*user("bob"), wrong])
 
