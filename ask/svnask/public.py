@@ -303,7 +303,7 @@ class History:
         """The branches and tags that have a revision, in their history or merged: today, or in a peg revision.
 
         >>> history.contains(9)
-        [Holder(path=b'/branches/two', how='history')]
+        [Holder(path=b'/branches/two', how='history', below=None)]
         """
         return list(questions.holders(self._history, patterns_given(patterns), rev, peg))
 

@@ -81,6 +81,24 @@ class Plain:
                     (held.merged if run.inheritable else held.partial).add(rev)
         return held
 
+    def below(self, place: plain.Place) -> dict[int, tuple[str, plain.Path]]:
+        """Return the revisions that the mergeinfo of paths below a path has, each with how, and the first such path."""
+        tree, found = self.history.trees[place.revision], dict[int, tuple[str, plain.Path]]()
+        paths = [path for path in tree if len(path) > len(place.path) and plain.is_below(path, place.path)]
+        for path in sorted(paths, key=plain.printed):
+            if tree[path].mergeinfo is None:
+                continue
+            try:
+                held = self.held(plain.Place(path, place.revision))
+            except plain.Malformed:
+                continue
+            for rev in held.merged | held.partial:
+                if found.get(rev, ("recorded",))[0] == "recorded":
+                    found[rev] = "merged in part", path
+            for rev in held.recorded - held.merged - held.partial:
+                found.setdefault(rev, ("recorded", path))
+        return found
+
     def is_copy_alone(self, rev: int) -> bool:
         """Return whether a revision only copies, adds folders above copies, and deletes what it copies."""
         actions = {record.path: record.action for record in self.records[rev]}

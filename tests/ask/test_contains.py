@@ -19,7 +19,8 @@ def how_held(held: Held, rev: int) -> str | None:
 
 
 class Contains(base.Case):
-    held = 0
+    # How many revisions are had, and how many of them by mergeinfo of a path below.
+    held = below = 0
 
     def check(self, dump: Path) -> None:
         """Compare the paths at most two deep, today and in an older revision."""
@@ -32,19 +33,29 @@ class Contains(base.Case):
         wanted = {}
         for path in known.history.trees[head]:
             if 1 <= len(path) <= 2:
+                place = plain.Place(path, head)
                 try:
-                    wanted[plain.printed(path)] = known.held(plain.Place(path, head))
+                    wanted[plain.printed(path)] = known.held(place), known.below(place)
                 except plain.Malformed:
                     continue
         for rev in range(1, head + 1):
-            found = {each.path: each.how for each in history.contains(rev, [b"/*", b"/*/*"], peg)}
-            for printed, held in wanted.items():
-                self.assertEqual(found.get(printed), how_held(held, rev), (peg, rev, printed))
+            found = {path: (how, below) for path, how, below in history.contains(rev, [b"/*", b"/*/*"], peg)}
+            for printed, (held, below) in wanted.items():
+                how, named = how_held(held, rev), None
+                if how is None and rev in below:
+                    how, named = below[rev][0], plain.printed(below[rev][1])
+                    self.below += 1
+                self.assertEqual(found.get(printed, (None, None)), (how, named), (peg, rev, printed))
             self.held += len(found)
 
     def test_drawn_histories(self) -> None:
         self.drawn(300, drawn, self.check)
         self.assertGreater(self.held, 200)
+        self.assertGreater(self.below, 20)
+
+    def test_the_recorded_repositories(self) -> None:
+        for name in base.names():
+            self.check(base.dump_of(name))
 
     def test_synchronized_features(self) -> None:
         self.drawn(2, synchronized, self.check)
@@ -55,11 +66,18 @@ class Contains(base.Case):
         words = ["contains", "5", "10", "branches/*@8", "trunk", "branches/two@7"]
         found = b"r5\t/branches/one@8\tmerged\nr5\t/branches/two@8\tmerged\nr5\t/trunk\thistory\n"
         self.assertEqual(base.called(dump, *words).output, found)
-        table = b"revision,path,peg,how\n5,/branches/two,8,merged\n5,/trunk,,history\n"
+        table = b"revision,path,peg,how,below\n5,/branches/two,8,merged,\n5,/trunk,,history,\n"
         self.assertEqual(base.called("--csv", dump, "contains", "5", "branches/two@8", "trunk@").output, table)
         done = base.called(dump, "contains", "5", "trunk@20")
         self.assertEqual((done.status, done.said), (1, "svnask: E160006: No such revision 20\n"))
         self.assertRaises(Denied, self.public_history(dump).contains, 5, [b"/trunk"], 20)
+
+    def test_a_part_below_a_branch_has_it(self) -> None:
+        dump = base.dump_of("merges")
+        line = b"/branches/two\tin part, in /branches/two/dir\n"
+        self.assertEqual(self.asked(dump, "contains", "14", "branches/two"), line)
+        (found,) = base.objects(dump, "contains", "14", "branches/two")
+        self.assertEqual((found["how"], found["below"]), ("merged in part", "/branches/two/dir"))
 
     def test_revisions_may_be_named_as_for_a_log(self) -> None:
         dump = base.dump_of("merges")

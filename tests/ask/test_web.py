@@ -36,12 +36,12 @@ from tests.ask.questions import ALL
 if TYPE_CHECKING:
     from svnask.web import asked, hosts
     from svnask.web import path as path_page
-    from svnask.web import renewed
+    from svnask.web import renewed, site
     from svnask.web import words as page_words
     from svnask.web import wsgi
 else:
-    names = ("asked", "hosts", "path", "renewed", "words", "wsgi")
-    asked, hosts, path_page, renewed, page_words, wsgi = (Lazy(f"svnask.web.{name}") for name in names)
+    names = ("asked", "hosts", "path", "renewed", "site", "words", "wsgi")
+    asked, hosts, path_page, renewed, site, page_words, wsgi = (Lazy(f"svnask.web.{name}") for name in names)
 
 ADDRESS = "127.0.0.1:8080"
 LACKING = [name for name in web.NEEDED if importlib.util.find_spec(name) is None]
@@ -201,7 +201,8 @@ class Web(base.Case):
                 (shown,) = base.objects(dump, "show", str(rev))
                 for change in shown["changes"]:
                     self.assertIn(change["path"], [row[1] for row in rows if len(row) == 5], (name, rev))
-                held = [[each["path"], each["how"]] for each in base.objects(dump, "contains", str(rev))]
+                lines = base.called(dump, "contains", str(rev)).output.decode("utf-8", "surrogateescape").splitlines()
+                held = [[site.printable(word) for word in line.split("\t")] for line in lines]
                 self.assertEqual([row for row in rows if len(row) == 2][1:], held)
                 merged = [f"r{each['revision']}" for each in merges if rev in each["merged"]]
                 arrows = [row for row in rows if len(row) == 6 and row[0].startswith("r")]

@@ -3,7 +3,8 @@ from __future__ import annotations
 
 from array import array
 from collections.abc import Iterable, Iterator, Sequence
-from functools import cache, lru_cache
+from functools import cache, lru_cache, reduce
+from operator import or_
 from typing import NamedTuple
 
 from svnask.branches.bringing import Bringing
@@ -14,7 +15,7 @@ from svnask.history.open_history import OpenHistory, one
 from svnask.history.targets import Target
 from svnask.log import selection as log
 from svnask.masks import count_in, mask_between, mask_of, mask_of_revisions, members_of
-from svnask.mergeinfo.values import runs_of
+from svnask.mergeinfo.values import Value, value_by_ranges, value_of
 from svnask.merges.recorded import Merged, Recorded
 from svnask.revisions import Range
 from svnask.texts import decoded
@@ -53,12 +54,12 @@ class Gained(NamedTuple):
     how: str
 
 
-def mergeinfo_of(answers: Answers, target: Target) -> dict[bytes, str]:
+def mergeinfo_of(answers: Answers, target: Target) -> Value:
     """The mergeinfo of a target that is there."""
     answer = answers[Mergeinfo(*target)]
     if answer.status == "malformed-mergeinfo":
         raise Denied("E200020", f"the mergeinfo of '{decoded(target.path)}' can't be read")
-    return answer.value
+    return value_by_ranges(answer.value)
 
 
 class LifeLogs:
@@ -111,6 +112,7 @@ class Holdings:
         self.recorded = Recorded(history)
         self._logs = LifeLogs(history)
         self._lives = cache(lambda path: [*history.tree.lives(path, history.head)])
+        self._named_in = lru_cache(MOST_MASKS)(self._revisions_named)
 
     def of(self, targets: Sequence[Target]) -> list[HeldRevisions]:
         """Return what each of some targets has."""
@@ -131,6 +133,17 @@ class Holdings:
             for target, alone in zip(targets, self.recorded.of(targets))
         ]
 
+    def named_below(self, target: Target) -> int:
+        """Return the set of the revisions that mergeinfo of paths below a target has."""
+        texts = {text for path, text in self._history.explicit.below(*target) if path != target.path}
+        return reduce(or_, map(self._named_in, texts), 0)
+
+    def _revisions_named(self, text: bytes) -> int:
+        """Return the set of the revisions of which a value of mergeinfo has some for a path that they changed."""
+        parts = [part for part, _ in self._named_parts(value_of(text) or {})]
+        self._logs.find(part.life for part in parts)
+        return reduce(or_, map(self._logs.of, parts), 0)
+
     def _parts_of_history(self, segments: Iterable[Segment]) -> list[LifePart] | None:
         """Return the parts of lives that a path went through, unless svnhist can't be asked about one of these."""
         found = [segment for segment in segments if segment.path is not None]
@@ -138,12 +151,12 @@ class Holdings:
             return None
         return [part for each in found for part in parts_of(self._lives(each.path or b""), each.lo, each.hi)]
 
-    def _named_parts(self, value: dict[bytes, str]) -> list[NamedPart]:
+    def _named_parts(self, value: Value) -> list[NamedPart]:
         return [
             NamedPart(part, run.inheritable)
-            for path, ranges in value.items()
+            for path, runs in value.items()
             if is_askable(path)
-            for run in runs_of(ranges.encode("ascii"))
+            for run in runs
             for part in parts_of(self._lives(path), run.lo, run.hi)
         ]
 

@@ -2,7 +2,8 @@
 from __future__ import annotations
 
 import itertools
-from collections.abc import Iterable, Iterator, Sequence
+from collections.abc import Iterable, Iterator, Mapping, Sequence
+from functools import cache
 from typing import NamedTuple
 
 from svnask import projects
@@ -12,7 +13,7 @@ from svnask.history.lives import Life, chains_of, is_plain, lives_at, moves_of, 
 from svnask.history.open_history import OpenHistory
 from svnask.history.targets import Target
 from svnask.log import selection as log
-from svnask.mergeinfo.values import runs_of
+from svnask.mergeinfo.values import Value, value_by_ranges, value_of
 from svnask.merges import show_revs as mergeinfo
 from svnask.merges.recorded import Merged, Recorded
 from svnask.paths import Place, components, is_at_or_below, tops_of
@@ -143,10 +144,12 @@ def operative(lives: Sequence[Life], answers: Iterator[Answer]) -> dict[Life, li
 
 
 class Holder(NamedTuple):
-    """A path that has a revision: in its own history, by a merge, whole or in part, or by a record of one alone."""
+    """A path that has a revision: in its own history, by a merge, whole or in part, or by a record of one alone. `below`
+    is the first path below it by whose own mergeinfo it has that, if it has it by no other."""
 
     path: bytes
     how: str
+    below: bytes | None = None
 
 
 class HolderQueries(NamedTuple):
@@ -201,21 +204,45 @@ def holders_of_all(
     ]
     answers = history.answers(query for each in asked for query in each.queries())
     copied = CopiedPaths(history)
-    found: dict[int, dict[bytes, str]] = {rev: {} for rev in revs}
+    found: dict[int, dict[bytes, Holder]] = {rev: {} for rev in revs}
     named: dict[Place, dict[int, list[Naming]]] = {}
     for place, each in zip(places, asked):
         segments, value = [] if each.where is None else answers[each.where].segments, answers[each.value]
         own = found.keys() & set(log.listed(history, log.Trace(segments, answered(answers[each.log]))))
         for rev in own:
-            found[rev][place[0]] = HISTORY
+            found[rev][place[0]] = Holder(place[0], HISTORY)
         if value.ok and len(own) < len(revs):
-            named[place] = namings(history, value.value, [rev for rev in revs if rev not in own], copied)
+            lacking = [rev for rev in revs if rev not in own]
+            named[place] = namings(history, value_by_ranges(value.value), lacking, copied)
     gaining = [place for place, namings_of in named.items() if namings_of]
     for place, recorded in zip(gaining, Recorded(history).of(gaining)):
         for rev, namings_of in named[place].items():
-            found[rev][place[0]] = how_merged(namings_of, recorded, rev)
+            found[rev][place[0]] = Holder(place[0], how_merged(namings_of, recorded, rev))
+    left = {place: {rev for rev in revs if place[0] not in found[rev]} for place in places}
+    for rev, holder in holders_below(history, left, revs, copied):
+        found[rev][holder.path] = holder
     for rev in revs:
-        yield from (Held(rev, Holder(path, found[rev][path]), peg) for path, _ in places if path in found[rev])
+        yield from (Held(rev, found[rev][path], peg) for path, _ in places if path in found[rev])
+
+
+def holders_below(
+    history: OpenHistory, lacking: Mapping[Place, set[int]], revs: Sequence[int], copied: CopiedPaths
+) -> Iterator[tuple[int, Holder]]:
+    """Yield those of the rising revisions that places lack, and have by the mergeinfo of a path below them."""
+    # Many paths have the same value.
+    named = cache(lambda text: namings(history, value_of(text) or {}, revs, copied))
+    recorded = Recorded(history)
+    for (top, head), left in lacking.items():
+        found: dict[int, Holder] = {}
+        for path, text in history.explicit.below(top, head) if left else ():
+            gained = left.intersection(named(text)) if path != top else set()
+            of_path = recorded.of([(path, head)] * bool(gained))
+            for rev in gained:
+                is_recorded = how_merged(named(text)[rev], of_path[0], rev) == RECORDED
+                # What was merged counts before what was only recorded.
+                if rev not in found or found[rev].how == RECORDED and not is_recorded:
+                    found[rev] = Holder(top, RECORDED if is_recorded else IN_PART, path)
+        yield from found.items()
 
 
 class Naming(NamedTuple):
@@ -237,14 +264,12 @@ class CopiedPaths(dict[int, set[bytes]]):
         return found
 
 
-def namings(
-    history: OpenHistory, value: dict[bytes, str], revs: Sequence[int], copied: CopiedPaths
-) -> dict[int, list[Naming]]:
+def namings(history: OpenHistory, value: Value, revs: Sequence[int], copied: CopiedPaths) -> dict[int, list[Naming]]:
     """The sources of which mergeinfo has rising revisions, and which the revision changed and left there."""
     found: dict[int, list[Naming]] = {}
-    for source, ranges in value.items():
+    for source, runs in value.items():
         tops = frozenset(tops_of(source))
-        for run in runs_of(ranges.encode("ascii")):
+        for run in runs:
             for rev in in_range(revs, run.lo, run.hi):
                 is_changed = history.changes_below(rev, source) or not copied[rev].isdisjoint(tops)
                 if is_changed and history.tree.exists(source, rev):

@@ -251,9 +251,9 @@ class Branches:
         """Yield what branches of today have that came from no branch."""
         for life, examined in self._examined.items():
             known = self._history_of(life) if examined.revisions else set()
-            for rev, how in examined.revisions:
+            for rev, (_, how, below) in examined.revisions:
                 if how != HISTORY or rev not in known:
-                    yield self._places[life][0], rev, MERGED if how == IN_PART else how
+                    yield self._places[life][0], rev, MERGED if how == IN_PART else how, text(below)
 
     def _history_of(self, life: Life) -> set[int]:
         """Return the revisions that the lanes have in the history of a life."""

@@ -7,11 +7,14 @@ import re
 from collections.abc import Collection, Iterator, Mapping
 from typing import NamedTuple
 
-from svnask.branches.questions import holders_of_all
+from svnask.branches.gained import Holdings
+from svnask.branches.questions import Holder, holders_of_all
 from svnask.engine.queries import Answer, Answers, LocationSegments, Log, Mergeinfo, Query, is_askable
 from svnask.history.lives import Life
 from svnask.history.open_history import OpenHistory
+from svnask.history.targets import Target
 from svnask.log import selection as log
+from svnask.masks import members_of
 from svnask.paths import Place
 from svnask.revisions import Revisions
 
@@ -33,14 +36,14 @@ class Examined(NamedTuple):
     life: Life
     has_own: bool
     has_older: bool
-    revisions: list[tuple[int, str]]
+    revisions: list[tuple[int, Holder]]
 
 
 class Others:
     """The branches of today that have more, or less, than what is known of some lives."""
 
     def __init__(self, history: OpenHistory, known: Collection[Life]) -> None:
-        self._history, self._known = history, known
+        self._history, self._known, self._holdings = history, known, Holdings(history)
         # Of a path that is merged the revisions in which no known life has it.
         self._unknown = functools.lru_cache(None)(self._unknown_revisions)
 
@@ -72,7 +75,17 @@ class Others:
             merged |= revisions if has_lost or not chain.is_whole else revisions & self._unknown(path)
         own = [] if chain.is_whole else self._own(life, answers)
         revs = sorted({*own, *(merged & Revisions([(1, self._history.head)]))})
-        return Examined(life, now.ok, now.ok and not has_lost, [*self._held(life, revs)])
+        below = self._named_below(Target(life.path, self._history.head), now.ok)
+        held = [*self._held(life, revs), *(each for each in self._held(life, below) if each[1].below is not None)]
+        return Examined(life, now.ok, now.ok and not has_lost, held)
+
+    def _named_below(self, target: Target, is_well: bool) -> list[int]:
+        """Return the revisions that a branch may have by mergeinfo of paths below it alone."""
+        named = self._holdings.named_below(target)
+        if named and is_well:
+            (held,) = self._holdings.of([target])
+            named &= ~(held.own | held.merged | held.partial | held.recorded)
+        return members_of(named & ~1)
 
     def _own(self, life: Life, answers: Answers) -> list[int]:
         """Return the revisions of the history of a branch."""
@@ -80,11 +93,11 @@ class Others:
         trace = log.Trace(answers[LocationSegments(*place)].segments, answers[Log(*place)].revisions)
         return log.listed(self._history, trace)
 
-    def _held(self, life: Life, revs: list[int]) -> Iterator[tuple[int, str]]:
+    def _held(self, life: Life, revs: list[int]) -> Iterator[tuple[int, Holder]]:
         if revs:
             pattern = SPECIAL.sub(rb"[\1]", life.path)
             for each in holders_of_all(self._history, [pattern], revs):
-                yield each.rev, each.holder.how
+                yield each.rev, each.holder
 
 
 def lacks(value: Mapping[bytes, Revisions], before: Mapping[bytes, str]) -> bool:

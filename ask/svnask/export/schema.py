@@ -53,7 +53,7 @@ CREATE TABLE merge_range (
 ) {rowless};
 CREATE TABLE other_revision (
     branch INTEGER NOT NULL REFERENCES branch, revision INTEGER NOT NULL REFERENCES revision, how TEXT NOT NULL,
-    PRIMARY KEY (branch, revision)
+    below TEXT, PRIMARY KEY (branch, revision)
 ) {rowless};
 CREATE INDEX other_revision_of_revision ON other_revision (revision);
 CREATE TABLE changed_tag (
@@ -71,13 +71,13 @@ ON ancestor.lane = branch_revision.lane AND branch_revision.revision BETWEEN anc
 UNION ALL SELECT branch, revision FROM other_revision WHERE how = 'history';
 
 CREATE VIEW in_merge AS
-SELECT ancestor.branch, branch_revision.revision, merge.revision AS merged_in, merge.is_recorded
+SELECT ancestor.branch, branch_revision.revision, merge.revision AS merged_in, merge.is_recorded, NULL AS below
 FROM branch_revision JOIN merge ON merge.origin_lane = branch_revision.lane AND merge.into_path IS NULL
 JOIN merge_range ON merge_range.merge = merge.id
     AND branch_revision.revision BETWEEN merge_range.first AND merge_range.last
 JOIN ancestor ON ancestor.lane = merge.lane AND ancestor.has_merges AND merge.revision BETWEEN ancestor.first AND ancestor.last
     AND (merge.lost IS NULL OR merge.lost > ancestor.last)
-UNION ALL SELECT branch, revision, NULL, how = 'recorded' FROM other_revision WHERE how <> 'history';
+UNION ALL SELECT branch, revision, NULL, how = 'recorded', below FROM other_revision WHERE how <> 'history';
 
 CREATE VIEW unmerged AS
 SELECT branch.id AS branch, branch_revision.revision

@@ -2,6 +2,7 @@
 from __future__ import annotations
 
 import re
+from collections.abc import Mapping
 from typing import NamedTuple
 
 # A number has ten digits at most, with its leading zeros.
@@ -20,6 +21,11 @@ class Run(NamedTuple):
 
 
 Value = dict[bytes, list[Run]]
+
+
+def value_by_ranges(ranges: Mapping[bytes, str]) -> Value:
+    """Return a value by the rangelists that svnhist prints of its paths."""
+    return {path: runs_of(each.encode("ascii")) for path, each in ranges.items()}
 
 
 def runs_of(text: bytes) -> list[Run]:

@@ -6,7 +6,7 @@ from argparse import ArgumentParser, Namespace
 from collections.abc import Iterable, Iterator, Sequence
 from operator import attrgetter
 
-from svnask.asking.verb import Object, Verb, add_log, add_patterns, fields_line, fields_of_log, object_of_log
+from svnask.asking.verb import Object, Verb, add_log, add_patterns, fields_line, fields_of_log, object_of_log, shown
 from svnask.branches import questions as branches
 from svnask.cli.verbs.log import glob_of
 from svnask.errors import Usage
@@ -26,7 +26,7 @@ from svnask.log.forms import SHOWN, as_wanted, sieve_of
 from svnask.log.plain import author_of, date_of
 from svnask.log.search import Glob, is_found
 from svnask.paths import split_peg
-from svnask.texts import decoded
+from svnask.texts import decoded, encoded
 
 OF_RANGES = "the revisions from LO to HI; may be repeated"
 OF_SEARCH = "the revisions whose author, date or message match, as for log; may be repeated"
@@ -34,7 +34,7 @@ OF_IN = "the same as a PATTERN, also where it looks like a revision; may be repe
 
 
 class ContainsVerb(Verb):
-    columns = ("revision", "path", "peg", "how")
+    columns = ("revision", "path", "peg", "how", "below")
 
     def arguments(self, parser: ArgumentParser) -> None:
         parser.add_argument(
@@ -74,16 +74,23 @@ class ContainsVerb(Verb):
 
     def text(self, history: OpenHistory, given: Namespace) -> Iterator[bytes]:
         is_one = self.is_about_one(given)
-        for rev, (path, how), peg in self.held(history, given):
+        for rev, holder, peg in self.held(history, given):
             named = [] if is_one else [b"r%d" % rev]
-            place = path if peg is None else b"%s@%d" % (path, peg)
-            yield fields_line([*named, place, how.encode("ascii"), *fields_of_log(history, rev, given)])
+            place = holder.path if peg is None else b"%s@%d" % (holder.path, peg)
+            yield fields_line([*named, place, how_in_words(holder), *fields_of_log(history, rev, given)])
 
     def objects(self, history: OpenHistory, given: Namespace) -> Iterator[Object]:
-        for rev, (path, how), peg in self.held(history, given):
+        for rev, (path, how, below), peg in self.held(history, given):
             about = object_of_log(history, rev) if given.log else {}
             as_of = {} if peg is None else {"peg": peg}
-            yield {"path": decoded(path), **as_of, "how": how, "revision": rev, **about}
+            yield {"path": decoded(path), **as_of, "how": how, "below": shown(below), "revision": rev, **about}
+
+
+def how_in_words(holder: branches.Holder) -> bytes:
+    """Return how a path has a revision, with the path below it by which it does."""
+    if holder.below is None:
+        return encoded(holder.how)
+    return (b"recorded" if holder.how == branches.RECORDED else b"in part") + b", in " + holder.below
 
 
 def patterns_by_peg(history: OpenHistory, texts: Sequence[str]) -> dict[int | None, list[bytes]]:
