@@ -3,26 +3,37 @@ from __future__ import annotations
 
 import os
 import re
+import signal
 import sqlite3
 from collections import Counter
-from collections.abc import Iterable
+from collections.abc import Iterable, Iterator
 from contextlib import closing
 from pathlib import Path
 from typing import Any
 from unittest import mock
 
+from dev.dumps import added, changed, copied, deleted, dump_of, mergeinfo
 from dev.tree import DOCS
 from svnask.branches.questions import IN_PART, holders_of_all
 from svnask.export import database
+from svnask.history.open_history import OpenHistory
 from tests.ask import base
 from tests.ask.drawn_repositories import drawn, synchronized
 
-TABLES = "source revision change mergeinfo branch ancestor branch_revision merge merge_range other_revision".split()
-TABLES += "changed_tag finding".split()
+TABLES = (
+    "source revision change mergeinfo mergeinfo_text branch ancestor branch_revision merge merge_range other_revision "
+    "changed_tag finding"
+).split()
 HOLDERS = """
 SELECT path, 'history' FROM in_history JOIN branch ON id = branch WHERE revision = ?1 AND is_alive UNION
 SELECT path, CASE is_recorded WHEN 1 THEN 'recorded' ELSE 'merged' END FROM in_merge JOIN branch ON id = branch
 WHERE in_merge.revision = ?1 AND is_alive
+"""
+# What paths have in a revision.
+MERGEINFO = """
+SELECT path, value FROM mergeinfo AS given WHERE value NOT NULL AND revision = (
+    SELECT max(revision) FROM mergeinfo WHERE path = given.path AND revision <= ?
+)
 """
 # Questions in SQL, beside those of the page.
 QUESTIONS = (
@@ -37,6 +48,11 @@ QUESTIONS = (
 def rows(path: Path, question: str, *values: Any) -> list[tuple[Any, ...]]:
     with closing(sqlite3.connect(path)) as opened:
         return opened.execute(question, values).fetchall()
+
+
+def below(history: OpenHistory, rev: int) -> Iterator[tuple[bytes, bytes]]:
+    """Return the paths that have mergeinfo in a revision, with that."""
+    return history.explicit.below(b"/", rev)
 
 
 def holders_in(path: Path, rev: int) -> dict[str, str]:
@@ -154,6 +170,9 @@ class Exported(base.Case):
                 held = holders_of_all(history, [], range(1, history.head + 1))
                 wanted = {(each.rev, database.text(each.holder.path)): each.holder.how for each in held}
                 head = history.head
+                for rev in range(head + 1):
+                    values = {(database.text(name), database.text(value)) for name, value in below(history, rev)}
+                    self.assertEqual({*rows(path, MERGEINFO, rev)}, values, rev)
             found = {(rev, name): how for rev in range(1, head + 1) for name, how in holders_in(path, rev).items()}
             self.assertEqual(found, {place: "merged" if how == IN_PART else how for place, how in wanted.items()})
             self.assertEqual(rows(path, "PRAGMA foreign_key_check"), [])
@@ -171,6 +190,105 @@ class Exported(base.Case):
             self.assertEqual(self.whole(path), self.whole(new), name)
             self.assertEqual(rows(path, "PRAGMA integrity_check"), [("ok",)])
             self.assertEqual(rows(path, "PRAGMA foreign_key_check"), [])
+
+    def test_mergeinfo_comes_with_a_copy_and_goes_with_a_deletion(self) -> None:
+        value = b"/trunk:2\n"
+        dump = dump_of(
+            [added(b"trunk"), added(b"branches")],
+            [added(b"branches/b"), added(b"branches/b/a")],
+            [changed(b"branches/b", mergeinfo(value)), changed(b"branches/b/a", mergeinfo(value))],
+            [deleted(b"branches/b"), copied(b"branches/c", b"branches/b", 3)],
+            [deleted(b"branches/c/a")],
+        )
+        path = self.exported(self.made("dump", dump))
+        question = "SELECT max(revision), value FROM mergeinfo WHERE path = ? AND revision <= ?"
+        wanted: dict[str, dict[int, tuple[object, ...]]] = {
+            "/branches/b": {3: (3, "/trunk:2\n"), 5: (4, None)},
+            "/branches/c": {3: (None, None), 5: (4, "/trunk:2\n")},
+            "/branches/c/a": {4: (4, "/trunk:2\n"), 5: (5, None)},
+        }
+        for name, found in wanted.items():
+            for rev, row in found.items():
+                self.assertEqual(rows(path, question, name, rev), [row], (name, rev))
+        self.assertEqual(rows(path, "SELECT count(*) FROM mergeinfo_text"), [(1,)])
+
+    def test_a_database_of_another_version_is_written_anew(self) -> None:
+        dump = base.dump_of("inherited")
+        path, new = self.exported(dump), self.exported(dump, "new.db")
+        with closing(sqlite3.connect(path)) as opened:
+            opened.executescript(
+                "CREATE TABLE kept AS SELECT * FROM mergeinfo WHERE revision < 5; DROP VIEW mergeinfo;"
+                "ALTER TABLE kept RENAME TO mergeinfo; DROP TABLE mergeinfo_of_path; DROP TABLE mergeinfo_text;"
+            )
+        (done,) = base.objects(dump, "export", path)
+        self.assertEqual((done["new"], self.whole(path)), (0, self.whole(new)))
+        with closing(sqlite3.connect(path)) as opened:
+            opened.executescript(
+                "UPDATE source SET version = '1.2.0.1'; DELETE FROM change; DELETE FROM mergeinfo_text;"
+            )
+        self.exported(dump)
+        self.assertEqual(self.whole(path), self.whole(new))
+
+    def grown(self) -> tuple[Path, Path, Path]:
+        """Return a database of the first revisions, the dump of all, and a database of that."""
+        content = base.content_of("merges")
+        path = self.exported(self.made("part", content[: content.index(b"Revision-number: 5\n")]))
+        return path, base.dump_of("merges"), self.exported(base.dump_of("merges"), "whole.db")
+
+    def test_others_read_what_was_there_or_what_is_new(self) -> None:
+        for mode in ("wal", "delete"):
+            path, dump, whole = self.grown()
+            with closing(sqlite3.connect(path, isolation_level=None)) as reader:
+                reader.execute(f"PRAGMA journal_mode = {mode}")
+                reader.execute("BEGIN")
+                youngest = "SELECT youngest FROM source"
+                self.assertEqual(reader.execute(youngest).fetchall(), [(4,)])
+                if mode == "wal":
+                    self.exported(dump)
+                else:
+                    with mock.patch.object(database, "PATIENCE", 0.0):
+                        self.check_unanswered(3, "svnask: cannot write ", dump, "export", path)
+                self.assertEqual(reader.execute(youngest).fetchall(), [(4,)])
+                reader.execute("COMMIT")
+                self.exported(dump)
+                self.assertEqual(reader.execute(youngest).fetchall(), [(19,)])
+                self.assertEqual(reader.execute("PRAGMA integrity_check").fetchall(), [("ok",)])
+            self.assertEqual(self.whole(path), self.whole(whole), mode)
+            path.unlink()
+
+    def test_nothing_is_left_where_it_is_killed(self) -> None:
+        path, dump, whole = self.grown()
+        connect = sqlite3.connect
+
+        def small(*words: Any, **options: Any) -> sqlite3.Connection:
+            """Open a database of which next to nothing is in memory, so that the file is written at once."""
+            opened: sqlite3.Connection = connect(*words, **options)
+            opened.execute("PRAGMA cache_size = 1")
+            return opened
+
+        def die(*_: object) -> None:
+            os.kill(os.getpid(), signal.SIGKILL)
+
+        def die_at_the_end(opened: sqlite3.Connection, statement: str) -> None:
+            if statement == "COMMIT":
+                die()
+            opened.execute(statement)
+
+        for name in (path, self.folder / "killed.db"):
+            before = self.whole(name) if name.exists() else None
+            for place, called in (("graph_of", die), ("put_values", die), ("run_when_free", die_at_the_end)):
+                with mock.patch.object(sqlite3, "connect", small), mock.patch.object(database, place, called):
+                    child = os.fork()
+                    if child == 0:
+                        base.called(dump, "export", name)
+                        os._exit(0)  # pylint: disable=protected-access
+                    self.assertEqual(os.waitpid(child, 0)[1], signal.SIGKILL)
+                if before is not None:
+                    self.assertEqual(self.whole(name), before, place)
+            self.exported(dump, name.name)
+            self.assertEqual(self.whole(name), self.whole(whole))
+        found = {each.name for each in self.folder.iterdir()}
+        self.assertEqual(found, {"cache", "history.db", "killed.db", "part", "whole.db"})
 
     def test_a_changed_message_is_written(self) -> None:
         dump = base.content_of("branches")

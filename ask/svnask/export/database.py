@@ -1,15 +1,14 @@
-"""Writes a history as an SQLite database, and later adds what is new.
-
-The file is copied, the copy gets the new revisions, and takes the place of the file when it is whole.
-"""
+"""Writes a history as an SQLite database, and later adds what is new, in one transaction."""
 from __future__ import annotations
 
 import bisect
 import contextlib
+import hashlib
 import marshal
 import os
-import shutil
+import re
 import sqlite3
+import time
 from collections.abc import Iterable, Iterator, Sequence
 from functools import partial
 from typing import Any, NamedTuple
@@ -18,8 +17,7 @@ from svnask import __version__
 from svnask.branches.questions import HISTORY, IN_PART, MERGED, RENAMED, touched
 from svnask.errors import Failed, Usage
 from svnask.export.others import Chain, Examined, Others
-from svnask.export.schema import DERIVED, INDEX, MADE, TABLES
-from svnask.files import replaced
+from svnask.export.schema import DERIVED, INDEX, TABLES
 from svnask.history.lives import Life, life_in
 from svnask.history.open_history import OpenHistory
 from svnask.log.processes import count_of_processes, made
@@ -32,6 +30,12 @@ from svnask.revisions import Revisions, in_range
 PIECE = 1000
 # SQLite has checked the types of columns since this version.
 STRICT = (3, 37)
+# How many seconds others who have the database open are waited for, and how many at a time.
+PATIENCE, PAUSE = 60.0, 0.2
+LOCKED = "locked"
+MADE = re.compile(r"CREATE (?:TABLE|VIEW) (\w+)")
+# How many bytes stand for a text.
+KEY = 16
 Row = tuple[Any, ...]
 Rows = Iterator[Row]
 
@@ -56,38 +60,81 @@ def export(history: OpenHistory, name: str) -> Exported:
     if name == "" or os.path.exists(final) and not os.path.isfile(final):
         raise Usage(f"'{name}' is no name of a file")
     try:
-        with replaced(final) as beside:
-            if os.path.exists(final):
-                shutil.copyfile(final, beside)
-            return write_database(history, beside, name)
+        with removed_unless_done(final), contextlib.closing(
+            sqlite3.connect(final, PAUSE, isolation_level=None)
+        ) as database:
+            run_when_free(database, "BEGIN IMMEDIATE")
+            found = write_database(history, database, name)
+            run_when_free(database, "COMMIT")
+            return found
     except sqlite3.DatabaseError as error:
         raise Failed(f"cannot write {name}: {error}") from error
     except OSError as error:
         raise Failed(f"cannot write {name}: {error.strerror}") from error
 
 
-def write_database(history: OpenHistory, path: str, name: str) -> Exported:
-    with contextlib.closing(sqlite3.connect(path, isolation_level=None)) as database:
-        # What is written is a copy, so nothing has to be taken back.
-        database.executescript("PRAGMA journal_mode = OFF; PRAGMA synchronous = OFF;")
-        first = first_lacking(history, database, name)
-        database.execute("BEGIN")
-        fill(history, database, first)
-        database.execute("COMMIT")
-        database.execute("PRAGMA synchronous = FULL")
-        database.execute("ANALYZE")
-    return Exported(history.head, history.head + 1 - first)
+@contextlib.contextmanager
+def removed_unless_done(name: str) -> Iterator[None]:
+    """Make a file if there is none, which goes if the block fails."""
+    try:
+        os.close(os.open(name, os.O_WRONLY | os.O_CREAT | os.O_EXCL | os.O_CLOEXEC, 0o666))
+    except FileExistsError:
+        yield
+        return
+    try:
+        yield
+    except BaseException:
+        with contextlib.suppress(OSError):
+            os.remove(name)
+        raise
 
 
-def statements(script: str) -> str:
+def run_when_free(database: sqlite3.Connection, statement: str) -> None:
+    """Run a statement for which others who have the database open may have to be waited for."""
+    until = time.monotonic() + PATIENCE
+    while True:
+        try:
+            database.execute(statement)
+            return
+        except sqlite3.OperationalError as error:
+            if LOCKED not in str(error) or time.monotonic() > until:
+                raise
+
+
+def write_database(history: OpenHistory, database: sqlite3.Connection, name: str) -> Exported:
+    known = count_known(history, database, name)
+    first = known if is_of_this_version(database) else 0
+    if not first:
+        remove(database, TABLES)
+        run(database, TABLES)
+    fill(history, database, first)
+    return Exported(history.head, history.head + 1 - known)
+
+
+def run(database: sqlite3.Connection, script: str) -> None:
+    """Run statements. `executescript` would end the transaction."""
     is_strict = sqlite3.sqlite_version_info >= STRICT
-    return script.format(strict="STRICT" * is_strict, rowless="WITHOUT ROWID" + ", STRICT" * is_strict)
+    filled = script.format(strict="STRICT" * is_strict, rowless="WITHOUT ROWID" + ", STRICT" * is_strict)
+    for statement in filled.split(";"):
+        database.execute(statement)
 
 
-def first_lacking(history: OpenHistory, database: sqlite3.Connection, name: str) -> int:
-    """Make the tables of a new database, and return the first revision that it lacks."""
-    if not database.execute("SELECT count(*) FROM sqlite_master").fetchone()[0]:
-        database.executescript(statements(TABLES))
+def remove(database: sqlite3.Connection, script: str) -> None:
+    """Remove the tables and views that a script makes, as far as they are there."""
+    kinds = kinds_in(database)
+    for name in MADE.findall(script):
+        if name in kinds:
+            database.execute(f"DROP {kinds[name]} {name}")
+
+
+def kinds_in(database: sqlite3.Connection) -> dict[str, str]:
+    """Return the names of what is in a database, each with whether it is a table or a view."""
+    return dict(database.execute("SELECT name, type FROM sqlite_master WHERE type IN ('table', 'view')").fetchall())
+
+
+def count_known(history: OpenHistory, database: sqlite3.Connection, name: str) -> int:
+    """Return how many revisions of a history a database has."""
+    if not kinds_in(database):
         return 0
     try:
         uuid, youngest = database.execute("SELECT uuid, youngest FROM source").fetchone()
@@ -98,6 +145,13 @@ def first_lacking(history: OpenHistory, database: sqlite3.Connection, name: str)
     if uuid != text(history.index.uuid) or youngest > history.head or date != text(history.revision(youngest).date):
         raise Usage(f"{name} has another history: remove it, or take another name")
     return int(youngest) + 1
+
+
+def is_of_this_version(database: sqlite3.Connection) -> bool:
+    """Return whether a database has all tables and views as this version writes them."""
+    if not kinds_in(database).keys() >= {*MADE.findall(TABLES + DERIVED)}:
+        return False
+    return bool(database.execute("SELECT version = ? FROM source", [__version__]).fetchone()[0])
 
 
 def row_of(history: OpenHistory, rev: int) -> Row:
@@ -112,35 +166,53 @@ def put(database: sqlite3.Connection, table: str, rows: Iterable[Row]) -> None:
 
 
 def fill(history: OpenHistory, database: sqlite3.Connection, first: int) -> None:
-    """Write what a database lacks, from a revision on, and all that may be different since."""
-    put(database, "revision", (row_of(history, rev) for rev in range(first)))
+    """Write what a database lacks, from a revision on, and all that may be different since. What takes long to find is
+    found first: while the rest is written, others may not be able to read."""
     if first > history.head:
         history.check()
+        put(database, "revision", reworded(history, database, first))
         return
-    kinds = dict(database.execute("SELECT name, type FROM sqlite_master"))
-    for name in filter(kinds.__contains__, MADE):
-        database.execute(f"DROP {kinds[name]} {name}")
-    database.execute("DELETE FROM source")
     for revisions, found in rows_of_pieces(history, first):
         put(database, "revision", revisions)
         put(database, "change", found)
     history.check()
-    database.execute(INDEX)
-    put(database, "mergeinfo", values(history, first))
-    for statement in statements(DERIVED).split(";"):
-        database.execute(statement)
     known = Branches(graph_of(history, []))
     history.release()
     known.examine(history)
+    events, wrong = list(known.changed_tags(history)), list(findings_of(history))
+    put(database, "revision", reworded(history, database, first))
+    database.execute(INDEX)
+    put_values(history, database, first)
+    remove(database, DERIVED)
+    run(database, DERIVED)
     put(database, "branch", known.branches())
     put(database, "ancestor", known.ancestors())
     put(database, "branch_revision", known.revisions())
     put(database, "merge", known.merges())
     put(database, "merge_range", known.merge_ranges())
     put(database, "other_revision", known.others())
-    put(database, "changed_tag", known.changed_tags(history))
-    put(database, "finding", findings_of(history))
+    put(database, "changed_tag", events)
+    put(database, "finding", wrong)
+    database.execute("DELETE FROM source")
     put(database, "source", [(history.source.name, text(history.index.uuid), history.head, __version__)])
+    database.execute("ANALYZE")
+
+
+def reworded(history: OpenHistory, database: sqlite3.Connection, first: int) -> list[Row]:
+    """Return the rows of revisions before one whose properties have changed since they were written."""
+    question = "SELECT number, author, date, message FROM revision WHERE number < ? ORDER BY number"
+    kept = database.execute(question, [first])
+    return [row for before, row in ((before, row_of(history, before[0])) for before in kept) if row != before]
+
+
+def put_values(history: OpenHistory, database: sqlite3.Connection, first: int) -> None:
+    """Write the mergeinfo that paths got from a revision on, each text once."""
+    for path, rev, value in history.explicit.changes(first):
+        shown, key = text(value), None
+        if shown is not None:
+            key = hashlib.blake2b(shown.encode("utf-8"), digest_size=KEY).digest()
+            database.execute("INSERT OR IGNORE INTO mergeinfo_text VALUES (?, ?)", [key, shown])
+        database.execute("INSERT OR REPLACE INTO mergeinfo_of_path VALUES (?, ?, ?)", [text(path), rev, key])
 
 
 def rows_of_pieces(history: OpenHistory, first: int) -> Iterator[tuple[list[Row], list[Row]]]:
@@ -168,13 +240,6 @@ def changes(history: OpenHistory, rev: int) -> Rows:
     for each in history.changes(rev):
         source = (None, None) if each.source is None else (text(each.source[0]), each.source[1])
         yield rev, text(each.path), each.letter, each.kind, each.has_text, each.has_properties, *source
-
-
-def values(history: OpenHistory, first: int) -> Rows:
-    """Yield the values of svn:mergeinfo that revisions gave to paths themselves."""
-    for rev, paths in history.explicit.settings.items():
-        if rev >= first:
-            yield from ((text(path), rev, text(history.explicit.text(path, rev))) for path in sorted(paths))
 
 
 def findings_of(history: OpenHistory) -> Rows:

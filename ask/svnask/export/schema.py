@@ -2,7 +2,7 @@
 from __future__ import annotations
 
 # STRICT is there where SQLite knows it. Tables whose key is not a number have no other one. A revision is a number
-# everywhere.
+# everywhere. Many paths have the same mergeinfo by copies, so a text stands once.
 TABLES = """
 CREATE TABLE source (
     name TEXT NOT NULL, uuid TEXT, youngest INTEGER NOT NULL, version TEXT NOT NULL
@@ -15,10 +15,15 @@ CREATE TABLE change (
     text INTEGER NOT NULL, properties INTEGER NOT NULL, from_path TEXT, from_revision INTEGER,
     PRIMARY KEY (revision, path)
 ) {strict};
-CREATE TABLE mergeinfo (
-    path TEXT NOT NULL, revision INTEGER NOT NULL REFERENCES revision, value TEXT,
+CREATE TABLE mergeinfo_text (
+    key BLOB PRIMARY KEY, value TEXT NOT NULL
+) {rowless};
+CREATE TABLE mergeinfo_of_path (
+    path TEXT NOT NULL, revision INTEGER NOT NULL REFERENCES revision, text BLOB REFERENCES mergeinfo_text,
     PRIMARY KEY (path, revision)
 ) {rowless};
+CREATE VIEW mergeinfo AS
+SELECT path, revision, value FROM mergeinfo_of_path LEFT JOIN mergeinfo_text ON mergeinfo_text.key = mergeinfo_of_path.text;
 """
 # Sooner made when the rows are there.
 INDEX = "CREATE INDEX IF NOT EXISTS change_of_path ON change (path, revision)"
@@ -95,8 +100,3 @@ SELECT change.path, revision.author, count(*) AS changes, max(revision.number) A
 FROM change JOIN revision ON revision.number = change.revision
 WHERE change.kind = 'file' GROUP BY change.path, revision.author;
 """
-# What DERIVED makes, those first that others refer to.
-MADE = (
-    *("author_of_file", "unmerged", "in_merge", "in_history", "finding", "changed_tag", "other_revision"),
-    *("merge_range", "merge", "branch_revision", "ancestor", "branch"),
-)

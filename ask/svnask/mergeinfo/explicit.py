@@ -44,6 +44,19 @@ class Explicit:
         """The revisions in which the text of a path was put, changed or taken away, rising."""
         return self._revs.get(path, [])
 
+    def changes(self, first: int) -> Iterator[tuple[bytes, int, bytes | None]]:
+        """Yield each path with a revision from one on in which it got another text, also by a copy, and that text, None
+        where it has none since."""
+        for path in sorted(self._revs):
+            revs, settings = self._revs[path], self._settings[path]
+            begin = bisect.bisect_left(revs, first)
+            before = settings[begin - 1].text if begin else None
+            for rev, setting in zip(revs[begin:], settings[begin:]):
+                text = setting.text
+                if text != before:
+                    yield path, rev, text
+                before = text
+
     def below(self, top: bytes, rev: int) -> Iterator[tuple[bytes, bytes]]:
         """The paths at or below one that have a text in a revision, and these."""
         for path in self._known(top):
