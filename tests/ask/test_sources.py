@@ -2,6 +2,8 @@
 from __future__ import annotations
 
 import os
+import signal
+import socket
 import subprocess
 import time
 from functools import partial
@@ -206,6 +208,45 @@ class Failing(Case):
             for number in numbers.read_text().split():
                 base.wait_for(partial(is_gone, Path(f"/proc/{number}")))
         self.asked(made.folder, "info")
+
+
+class Hanging(Case):
+    """A server that takes a connection and answers nothing."""
+
+    def setUp(self) -> None:
+        super().setUp()
+        self.server = socket.create_server(("127.0.0.1", 0))
+        self.addCleanup(self.server.close)
+        self.url = f"svn://127.0.0.1:{self.server.getsockname()[1]}/repo"
+
+    def asking(self) -> subprocess.Popen[bytes]:
+        """Ask the server, which has been connected to."""
+        with base.signals_end():
+            child = subprocess.Popen(base.command(self.url, "log", "-l", "1"), stderr=subprocess.DEVNULL)
+        self.addCleanup(child.wait)
+        self.addCleanup(self.server.accept()[0].close)
+        return child
+
+    def commands(self) -> list[str]:
+        """The commands of svn that still ask the server."""
+        done = running.run(["pgrep", "-f", f"^svn .*{self.url}"])
+        return done.output.decode().split()
+
+    def test_a_question_ends_with_its_commands(self) -> None:
+        for number in (signal.SIGTERM, signal.SIGINT, signal.SIGHUP, signal.SIGKILL):
+            child = self.asking()
+            self.assertEqual(len(self.commands()), 1)
+            child.send_signal(number)
+            self.assertEqual(child.wait(10), -number)
+            base.wait_for(lambda: not self.commands())
+
+    def test_a_source_may_take_so_long(self) -> None:
+        for words in (["log", "-l", "1"], ["update"], ["serve"]):
+            said = "svnask: svn was not done after 1 seconds, which --timeout gives"
+            self.check_unanswered(1, said, "--timeout", "1", self.url, *words)
+        self.check_unanswered(2, "argument --timeout: 'soon' is not a number", "--timeout=soon", self.url, "log")
+        made = self.repository()
+        self.assertEqual(self.asked(made.url, "log", "--timeout", "60"), self.asked(made.url, "log"))
 
 
 class Served(Case):

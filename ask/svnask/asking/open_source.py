@@ -53,7 +53,7 @@ class OpenSource:
         """Ask about the history. What the cache has of it is made anew where it is refused: the disk may have changed
         it."""
         for _ in range(2):
-            with closing(source_in(given)) as source:
+            with source_in(given) as source:
                 history = self.updated(given, source)
                 try:
                     question(history)

@@ -5,6 +5,7 @@ import argparse
 import os
 import sys
 from collections.abc import Iterator
+from contextlib import closing, contextmanager
 from typing import TYPE_CHECKING, Callable, NamedTuple
 
 from svnask.asking.verb import object_line
@@ -14,6 +15,7 @@ from svnask.history.open_history import OpenHistory
 from svnask.history.targets import path_in, path_of
 from svnask.lazy import Lazy
 from svnask.sources.access import IS_URL
+from svnask.sources.deadlines import within
 from svnask.sources.opening import source_of
 from svnask.sources.source import Source
 from svnask.texts import say
@@ -31,12 +33,13 @@ HIDDEN = "a host hides from a user the paths that he may not read, and a history
 FAULT = 5
 
 
-def source_in(given: argparse.Namespace) -> Source:
-    """The source that a command line names, with the path in it that is asked about."""
+@contextmanager
+def source_in(given: argparse.Namespace) -> Iterator[Source]:
+    """Open the source that a command line names, with the path in it that is asked about."""
     need_folder(given.dump)
-    source = source_of(given.dump, given.access, given.offline)
-    source.path = path_in(source.path, path_of(given.below))
-    return source
+    with within(given.timeout), closing(source_of(given.dump, given.access, given.offline)) as source:
+        source.path = path_in(source.path, path_of(given.below))
+        yield source
 
 
 def need_folder(name: str) -> None:

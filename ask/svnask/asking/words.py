@@ -15,6 +15,7 @@ VALUED = frozenset(
     (*LONG.values(), *REACHED, "--into", "--show-revs", "--depth", "--with-revprop", "--search", "--search-and")
     + (
         "--from",
+        "--timeout",
         "--since",
         "--until",
         "--width",

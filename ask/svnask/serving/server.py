@@ -20,7 +20,6 @@ import tempfile
 import threading
 import time
 from collections.abc import Callable, Iterator
-from contextlib import closing
 from types import TracebackType
 from typing import IO, Any
 
@@ -54,7 +53,7 @@ def serve(given: argparse.Namespace) -> None:
     top = files.cache_folder()
     if given.dump == "-" or top is None:
         raise Failed("only what is kept in a cache can be served, and no pipe", 2)
-    with closing(running.source_in(given)) as named:
+    with running.source_in(given) as named:
         place = named.known_by
     with OpenSource(given) as source:
         source.asked(given, lambda history: running.check(history, given.dump))
@@ -226,7 +225,7 @@ class Server:
             given = parsed(words)
             if not is_for_server(given):
                 return None
-            with closing(running.source_in(given)) as source:
+            with running.source_in(given) as source:
                 if source.known_by != self._place:
                     return None
                 history = self._source.updated(given, source)

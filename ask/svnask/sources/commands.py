@@ -2,18 +2,25 @@
 from __future__ import annotations
 
 import base64
+import errno
 import fcntl
 import os
 import re
+import shutil
+import signal
 import subprocess
 import tempfile
+import threading
+import time
 import xml.etree.ElementTree as xml
 from collections.abc import Iterator, Sequence
 from contextlib import closing, contextmanager, suppress
+from functools import lru_cache
 from typing import IO
 
 from svnask.engine.talk import name_of_signal
 from svnask.errors import Failed, Unreached
+from svnask.sources import deadlines
 
 # The messages are in English, and a path may have any letters.
 LOCALE = {"LC_ALL": "C.UTF-8"}
@@ -27,21 +34,67 @@ NOT_IN_XML = re.compile(f"[\x00-\x08\x0b\x0c\x0e-\x1f\udc80-\udcff\ufffe\uffff{S
 REPLACED = re.compile(SIGN + "([0-9a-f]{6})")
 # The call of Linux, which `fcntl` names from Python 3.10 on.
 F_SETPIPE_SZ = 1031
+# Since when setpriv has Linux end a command with the thread that began it, and what it prints of its version.
+GUARDED_SINCE, VERSION = (2, 33), re.compile(rb"util-linux (\d+)\.(\d+)")
+# With this option svn asks for a password also where its standard input is no terminal.
+FORCED = "--force-interactive"
+# How many seconds a command has to end.
+ENDING = 0.5
 # How much is read at once, and how much a pipe holds, where it may, so that the command need not wait.
 PIECE, HELD = 1 << 17, 1 << 20
 
 
+@lru_cache(maxsize=None)
+def guard() -> tuple[str, ...]:
+    """Return the words before a command with which Linux ends it when svnask is killed, if the system has them."""
+    program = shutil.which("setpriv")
+    if program is None:
+        return ()
+    found = VERSION.search(subprocess.run([program, "--version"], stdout=subprocess.PIPE, check=False).stdout)
+    has_it = found is not None and (int(found[1]), int(found[2])) >= GUARDED_SINCE
+    return (program, "--pdeathsig", "KILL") if has_it else ()
+
+
 class Command:
-    """A command that runs. It may ask for a password on the terminal, which is also its standard input."""
+    """A command that runs. It may ask for a password on the terminal, which is also its standard input. Where it may
+    not, it has a group of its own, which ends with it."""
 
     def __init__(self, words: Sequence[str], output: int | IO[bytes]) -> None:
-        self._name = words[0]
+        self._name, self._deadline, self._is_late = words[0], deadlines.CURRENT.get(), False
+        self._has_group = not (FORCED in words or os.isatty(0))
+        if shutil.which(self._name) is None:
+            raise Failed(f"cannot run {self._name}: {os.strerror(errno.ENOENT)}")
         self._errors = tempfile.TemporaryFile()
         try:
-            self.process = subprocess.Popen(words, stdout=output, stderr=self._errors, env={**os.environ, **LOCALE})
+            self.process = subprocess.Popen(
+                [*guard(), *words],
+                stdout=output,
+                stderr=self._errors,
+                env={**os.environ, **LOCALE},
+                start_new_session=self._has_group,
+            )
         except OSError as error:
             self._errors.close()
             raise Failed(f"cannot run {self._name}: {error.strerror}") from error
+        self._timer: threading.Timer | None = None
+        if self._deadline is not None:
+            self._timer = threading.Timer(max(self._deadline.when - time.monotonic(), 0), self._end_late)
+            self._timer.daemon = True
+            self._timer.start()
+
+    def _end_late(self) -> None:
+        self._is_late = self.process.poll() is None
+        self._send(signal.SIGKILL)
+
+    def _send(self, number: int) -> None:
+        """Send a signal to the command if it runs, and to what it started."""
+        with suppress(OSError):
+            if self.process.poll() is not None:
+                return
+            if self._has_group:
+                os.killpg(self.process.pid, number)
+            else:
+                self.process.send_signal(number)
 
     def said(self) -> str:
         """Return what the command printed on standard error."""
@@ -51,6 +104,8 @@ class Command:
     def failure(self) -> Failed | Unreached:
         """Return why the command failed, by its status and what it said."""
         status, said = self.process.wait(), self.said()
+        if self._is_late and self._deadline is not None:
+            return Unreached(f"{self._name} was not done after {self._deadline.seconds} seconds, which --timeout gives")
         if status < 0:
             return Failed(f"{self._name} was ended by {name_of_signal(-status)}")
         lines = [found[1] for found in map(ERROR.match, said.splitlines()) if found]
@@ -61,11 +116,17 @@ class Command:
         return Unreached(first, rest, NONE_THERE.match(first) is not None)
 
     def close(self) -> None:
-        """End the command, if it still runs."""
-        self.process.terminate()
+        """End the command, if it still runs. One that waits for a server looks at no signal until that answers."""
+        if self._timer is not None:
+            self._timer.cancel()
+        self._send(signal.SIGTERM)
         if self.process.stdout is not None:
             self.process.stdout.close()
-        self.process.wait()
+        try:
+            self.process.wait(ENDING)
+        except subprocess.TimeoutExpired:
+            self._send(signal.SIGKILL)
+            self.process.wait()
         self._errors.close()
 
 

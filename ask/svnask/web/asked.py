@@ -26,7 +26,7 @@ OF_FILES = ("output", "targets", "help", "link")
 # A regular expression may take endlessly long, and no other thread runs meanwhile.
 ENDLESS = ("issue",)
 # What is said of the source, and so of each question.
-COMMON = ("dump", "access", "below", "offline", "no_cache")
+COMMON = ("dump", "access", "below", "offline", "no_cache", "timeout")
 # How many seconds a page waits for what takes long to find.
 PATIENCE = 1.0
 T = TypeVar("T")

@@ -8,6 +8,7 @@ from svnask.asking.running import explained_of
 from svnask.asking.verb import Verb, object_line, write_all
 from svnask.errors import Damaged, Refused
 from svnask.history.open_history import OpenHistory
+from svnask.sources.deadlines import within
 from svnask.sources.dump import Dump
 from svnask.sources.entries import read_index
 from svnask.sources.opening import source_of, with_properties
@@ -21,7 +22,7 @@ class UpdateVerb(Verb):
         parser.add_argument("--properties", action="store_true", help="also read the properties of all revisions again")
 
     def run(self, given: Namespace) -> int:
-        with closing(source_of(given.dump, given.access)) as source, closing(Bar()) as bar:
+        with within(given.timeout), closing(source_of(given.dump, given.access)) as source, closing(Bar()) as bar:
             entry = source.entry()
             before = read_index(entry.folder) if entry is not None else None
             head = len(before.revisions) - 1 if before is not None else -1
