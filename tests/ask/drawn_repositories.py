@@ -177,11 +177,13 @@ class Draft:
         self.touched.add(path)
 
     def merge(self) -> None:
-        """Other mergeinfo of a branch, or of a path below one, and perhaps a change that came with it."""
+        """Other mergeinfo of a branch, or of a path below one, perhaps with another property, and with a change that came
+        with it."""
         path = self.some_path()
         if path is None:
             return
-        self.set(path, self.with_mergeinfo(self.tree[path].properties))
+        other = {b"mark": b"merged"} if self.chance.random() < 0.2 else {}
+        self.set(path, {**self.with_mergeinfo(self.tree[path].properties), **other})
         if self.chance.random() < 0.5:
             self.change_below(path)
 

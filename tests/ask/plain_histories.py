@@ -1,10 +1,13 @@
 """What paths of small histories have, by the trees of all revisions, which the second implementation makes."""
 from __future__ import annotations
 
+import itertools
 from itertools import repeat
 from typing import NamedTuple
 
 from model import definitions as plain
+
+Properties = dict[bytes, bytes]
 
 
 class Held(NamedTuple):
@@ -23,11 +26,39 @@ class Plain:
         self.records = plain.records_of(dump)
         self.history = plain.history_of(dump)
         self.texts: list[set[plain.Path]] = []
+        # The properties of each path of each revision.
+        self.properties: list[dict[plain.Path, Properties]] = []
+        records = itertools.chain.from_iterable(self.records)
         for block in plain.blocks_of(dump):
             if b"Revision-number" in block.headers:
                 self.texts.append(set())
-            elif b"Text-content-length" in block.headers:
-                self.texts[-1].add(plain.parts_of(block.headers[b"Node-path"]))
+                self.properties.append(dict(self.properties[-1]) if self.properties else {(): {}})
+            elif b"Node-path" in block.headers:
+                record = next(records)
+                self.apply(record, block.headers.get(b"Prop-delta") == b"true")
+                if b"Text-content-length" in block.headers:
+                    self.texts[-1].add(record.path)
+
+    def apply(self, record: plain.Record, has_changes: bool) -> None:
+        """Take what a record says of properties, which may be changes alone."""
+        now = self.properties[-1]
+        if record.action != b"change":
+            for path in [path for path in now if plain.is_below(path, record.path)]:
+                del now[path]
+        if record.source is not None:
+            source, rev = record.source
+            copied = {path: each for path, each in self.properties[rev].items() if plain.is_below(path, source)}
+            now.update((record.path + path[len(source) :], each) for path, each in copied.items())
+        if record.action != b"delete":
+            given: dict[bytes, bytes | None] = {}
+            if has_changes or not record.properties:
+                given.update(now.get(record.path, {}))
+            given.update(record.properties)
+            now[record.path] = {name: value for name, value in given.items() if value is not None}
+
+    def others(self, path: plain.Path, rev: int) -> Properties:
+        """Return the properties of a path but mergeinfo."""
+        return {name: value for name, value in self.properties[rev][path].items() if name != plain.MERGEINFO}
 
     def is_listed(self, path: plain.Path, rev: int) -> bool:
         """Return whether `svn log` lists a revision of a path: also one that copied it or a path above it to itself,
@@ -65,7 +96,7 @@ class Plain:
         if record.action != b"change" or record.path in self.texts[rev]:
             return False
         now, before = (self.history.trees[each][record.path].mergeinfo for each in (rev, rev - 1))
-        return now != before
+        return now != before and self.others(record.path, rev) == self.others(record.path, rev - 1)
 
     def held(self, place: plain.Place) -> Held:
         found = plain.places(self.history.trees, place)

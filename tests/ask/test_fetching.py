@@ -12,18 +12,22 @@ import unittest
 from collections.abc import Iterator
 from contextlib import closing
 from pathlib import Path
+from typing import NamedTuple
 from unittest import mock
 
-from dev.dumps import FILE, added, changed, copied, deleted, dump_of, mergeinfo, section
+from dev.dumps import FILE, MERGEINFO, Node, Properties, added, changed, copied, deleted, dump_of, mergeinfo, section
 from dev.tree import ROOT
 from svnask import History, Record
 from svnask.copy.sections import Setting
 from svnask.history.open_history import OpenHistory
+from svnask.merges.recorded import MergeinfoAlone
+from svnask.paths import Place
 from svnask.sources import commands, fetching, logged, values
 from svnask.sources.access import Access
 from svnask.sources.opening import source_of
 from svnask.sources.progress import Progress
 from tests.ask import base, grown
+from tests.ask.drawn_repositories import drawn
 
 ACTIONS = ("delete", "replace", "add", "change")
 NOTHING = Setting(None)
@@ -38,10 +42,26 @@ def record_of(record: Record) -> tuple[object, ...]:
     return *order, record.kind, record.source, given
 
 
-def all_of(history: OpenHistory) -> tuple[list[tuple[object, ...]], list[dict[bytes, bytes]]]:
-    """Return the records of a history in the order of their paths, and the properties of its revisions."""
+class Known(NamedTuple):
+    """The records of a history in the order of their paths, the properties of its revisions, and the paths at and below
+    which some of these changed nothing but mergeinfo."""
+
+    records: list[tuple[object, ...]]
+    properties: list[dict[bytes, bytes]]
+    alone: list[Place]
+
+
+def all_of(history: OpenHistory) -> Known:
+    """Return what is known of a history."""
     records = sorted(map(record_of, history.records()), key=lambda each: each[:3])
-    return records, [history.revision(rev).properties for rev in range(history.head + 1)]
+    alone = MergeinfoAlone(history)
+    places = [(path, rev) for rev, paths in history.explicit.settings.items() for path in sorted(paths)]
+    lives = {(path, rev): history.tree.life(path, rev, history.head) for path, rev in places}
+    return Known(
+        records,
+        [history.revision(rev).properties for rev in range(history.head + 1)],
+        [place for place, life in lives.items() if life is not None and alone.is_so(life, place[1])],
+    )
 
 
 class Case(base.Case):
@@ -84,6 +104,11 @@ class Records(Case):
             for repository in made:
                 self.check(repository, str(repository), *(f"{server}/{repository.name}" for server in servers))
 
+    def test_drawn_histories(self) -> None:
+        for seed in range(8):
+            repository = self.repository(f"drawn{seed}", drawn(random.Random(seed)))
+            self.check(repository, str(repository))
+
     def test_in_small_parts(self) -> None:
         small = [(fetching, "REVISIONS", 1), (fetching, "SECONDS", 0.0), (fetching, "TIMES", 0), (values, "MOST", 1)]
         for name, many in (("drawn", 99), ("merges", 1)):
@@ -92,6 +117,66 @@ class Records(Case):
                 for module, each, value in [*small, (logged, "MANY", many)]:
                     patches.enter_context(mock.patch.object(module, each, value))
                 self.check(repository, str(repository))
+
+
+class Merges(Case):
+    """Merges of a property into `b`, and the same merges that were only recorded in `c`."""
+
+    ONE, TWO = ({b"svn:externals": text} for text in (b"one here", b"two here"))
+    BRANCHES = [copied(path, b"trunk", 1) for path in (b"b/b", b"b/c")]
+
+    def merged(self, path: bytes, value: bytes, other: Properties) -> list[Node]:
+        return [changed(path, section({**other, MERGEINFO: value}))]
+
+    def setUp(self) -> None:
+        super().setUp()
+        steps = [[added(b"trunk"), added(b"b"), added(b"trunk/f", FILE)], self.BRANCHES]
+        for other, value in ((self.ONE, b"/trunk:3"), (self.TWO, b"/trunk:3,6")):
+            steps.append([changed(b"trunk", section(other))])
+            steps += [self.merged(b"b/b", value, other), self.merged(b"b/c", value, {})]
+        self.dump = dump_of(*steps)
+
+    def sources(self) -> Iterator[base.Word]:
+        """Yield what has the same history."""
+        yield self.made("dump", self.dump)
+        repository = self.repository("repository", self.dump)
+        yield repository
+        yield repository.as_uri()
+        yield self.made("deltas", grown.svn("svnadmin", "dump", "-q", "--deltas", repository).output)
+        yield self.made("svnrdump", grown.svn("svnrdump", "dump", "-q", repository.as_uri()).output)
+
+    def test_each_source_says_what_was_recorded(self) -> None:
+        for source in self.sources():
+            held = [[each["how"] for each in base.objects(source, "contains", rev, "b/*")] for rev in ("3", "6")]
+            self.assertEqual(held, [["merged", "recorded"]] * 2, source)
+            for name, wanted in (("b", [6, 3]), ("c", [])):
+                found = base.objects(source, "new", "trunk@2", f"b/{name}")
+                self.assertEqual([each["revision"] for each in found], wanted, source)
+            merges = [each for each in base.objects(source, "graph", "trunk", "b/*") if each["type"] == "merge"]
+            recorded = {each["revision"]: each["is_record_only"] for each in merges}
+            self.assertEqual(recorded, {4: False, 5: True, 7: False, 8: True}, source)
+
+    def test_what_was_asked_is_kept(self) -> None:
+        repository = self.repository("repository", self.dump)
+        self.asked(repository, "update")
+        with grown.instead_of(self.folder, "proplist", 'case "$*" in *--revprop*) ;; *) exit 1 ;; esac'):
+            self.assertIn(b"/b/c\trecorded\n", self.asked(repository, "contains", "3", "b/*"))
+            self.assertEqual(base.called(repository, "contains", "3", "--no-cache").status, 3)
+
+    def test_properties_that_svn_cannot_print(self) -> None:
+        """The lines of a value end in several ways. Then nothing is said to be recorded alone."""
+        odd = {b"svn:ignore": b"a\r\nb\n"}
+        steps = [
+            [added(b"trunk"), added(b"b"), added(b"trunk/f", FILE)],
+            self.BRANCHES,
+            [changed(b"trunk/f", text=b"x")],
+        ]
+        steps += [[changed(b"b/b", section(odd))]]
+        steps += [self.merged(b"b/b", b"/trunk:3", odd), self.merged(b"b/c", b"/trunk:3", {})]
+        dump = dump_of(*steps)
+        for source, wanted in ((self.made("dump", dump), "recorded"), (self.repository("repository", dump), "merged")):
+            held = [each["how"] for each in base.objects(source, "contains", "3", "b/*")]
+            self.assertEqual(held, [wanted, "recorded"], source)
 
 
 class Elements(unittest.TestCase):

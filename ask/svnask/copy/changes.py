@@ -23,7 +23,7 @@ WITHOUT_KIND = re.compile(BEGIN_OF_RECORD + rb".*\n(?!Node-kind: )")
 PLAIN = re.compile(
     rb"Node-path: (.*)\n(?:Node-kind: (.*)\n)?Node-action: (add|change|delete|replace)"
     rb"(?:\nNode-copyfrom-rev: ([0-9]+)\nNode-copyfrom-path: (.*))?(?:\nProp-delta: .*)?(?:\nText-delta: .*)?"
-    rb"(?:\nMods: (text)?(?: ?(properties))?)?(?:\nProp-content-length: 10\nContent-length: 10)?"
+    rb"(?:\nMods: (text)?(?: ?(properties|mergeinfo)(?: [0-9a-f]+)?)?)?(?:\nProp-content-length: 10\nContent-length: 10)?"
 )
 
 

@@ -5,7 +5,7 @@ import os
 import zlib
 from typing import BinaryIO, NamedTuple
 
-VERSION = b"svnask 6"
+VERSION = b"svnask 7"
 DATE = b"K 8\nsvn:date\n"
 # How many lines of an index stand before those of the revisions.
 LINES = 6

@@ -3,7 +3,7 @@ from __future__ import annotations
 
 import mmap
 import re
-from typing import Union
+from typing import NamedTuple, Union
 
 from svnask.digits import number
 
@@ -79,16 +79,24 @@ def one_mergeinfo(whole: Bytes, begin: int, end: int) -> Setting | None:
     return Setting(whole, first, last) if is_one else None
 
 
-def mergeinfo_alone(section: bytes, is_delta: bool) -> bytes:
-    """A property section with `svn:mergeinfo` alone: its last entry, or each of them where the section has changes. A
-    list without it says something, too: that there is none."""
+class SplitSection(NamedTuple):
+    """A property section with `svn:mergeinfo` alone, and what the whole one says of other properties."""
+
+    section: bytes
+    others: dict[bytes, bytes | None]
+
+
+def split_section(section: bytes, is_delta: bool) -> SplitSection:
+    """Split a property section. Of `svn:mergeinfo` it keeps the last entry, or each of them where the section has
+    changes. A list without it says something, too: that there is none."""
     if section == LAST_LINE or one_mergeinfo(section, 0, len(section)):
-        return section
+        return SplitSection(section, {})
     entries = entries_of(section, is_delta)
     if len(entries) == 1 and entries[0][0] == MERGEINFO:
-        return section
+        return SplitSection(section, {})
     kept = [entry(name, value) for name, value in entries if name == MERGEINFO]
-    return b"".join(kept if is_delta else kept[-1:]) + LAST_LINE
+    others = {name: value for name, value in entries if name != MERGEINFO}
+    return SplitSection(b"".join(kept if is_delta else kept[-1:]) + LAST_LINE, others)
 
 
 def properties_of(section: bytes) -> dict[bytes, bytes]:

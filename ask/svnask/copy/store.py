@@ -14,7 +14,7 @@ from typing import IO, TYPE_CHECKING, Any, BinaryIO, NamedTuple
 from svnask import digits, files
 from svnask.copy.index import Index
 from svnask.copy.sections import LAST_LINE, Bytes, Setting, body_of, properties_of, setting_of
-from svnask.copy.writer import FIRST_LINE
+from svnask.copy.writer import FIRST_LINE, PROPERTIES
 from svnask.errors import Damaged
 from svnask.lazy import Lazy
 from svnask.paths import clean
@@ -37,7 +37,7 @@ OF_RECORD = (
     rb"(?:Text-delta: [^\n]*\n)?"
 )
 OF_ALL = (
-    rb"At: (?P<at>[0-9]+)\n(?:Mods: (?P<text>text)?(?: ?(?P<properties>properties))?\n)?"
+    rb"At: (?P<at>[0-9]+)\n(?:Mods: (?P<text>text)?(?: ?(?P<properties>properties|mergeinfo))?(?: (?P<others>[0-9a-f]+))?\n)?"
     rb"(?:Prop-content-length: (?P<length>[0-9]+)\nContent-length: [0-9]+\n)?\n"
 )
 BLOCK = re.compile(rb"\n*(?:Revision-number: (?P<rev>[0-9]+)\n|%s%s|UUID: [^\n]*\n)%s" % (PLACE, OF_RECORD, OF_ALL))
@@ -58,6 +58,8 @@ REVISION = re.compile(
 )
 # The offset of a block, which follows its other headers, but for a block that is not well formed.
 MARK = re.compile(rb"\n*(?:[^\n]+\n)*?At: ([0-9]+)\n")
+# A name for properties of which nothing is known but that a record changed some.
+UNKNOWN_OTHERS = b"?"
 # The end of a property section after a value.
 END = b"\n" + LAST_LINE
 
@@ -76,6 +78,8 @@ class Record(NamedTuple):
     # Whether it gives a text, and whether it changes properties.
     has_text: bool
     has_properties: bool
+    # A name for the properties but mergeinfo that the path has then, None where the record changes none of them.
+    others: bytes | None
 
 
 class Revision(NamedTuple):
@@ -278,13 +282,13 @@ class Store:
             yield record_of(found, number, rev, self.index.format)
 
     def telling(self) -> Iterator[Record]:
-        """The records that make or unmake a path, or change its mergeinfo: few of all. They are numbered by themselves.
+        """The records that make or unmake a path, or change its properties: few of all. They are numbered by themselves.
         Their texts can be read until the store is closed."""
         for number, (found, rev) in enumerate(self._telling(), 1):
             if number % RELEASED_AFTER == 0:
                 self.release()
             record = lent_record(found, number, rev, self.index.format)
-            if record.action != "change" or record.mergeinfo is not None:
+            if record.action != "change" or record.mergeinfo is not None or record.others is not None:
                 yield record
 
     def _telling(self) -> Iterator[tuple[re.Match[bytes], int]]:
@@ -379,7 +383,7 @@ def record_of(found: re.Match[bytes], number: int, rev: int, version: int) -> Re
 def lent_record(found: re.Match[bytes], number: int, rev: int, version: int) -> Record:
     """Return the record of a block, whose text of mergeinfo is a part of that."""
     end = found.end() + digits.number(found["length"] or b"0")
-    path, kind, action, from_rev, from_path, delta, at, text, properties, _ = found.groups()[-10:]
+    path, kind, action, from_rev, from_path, delta, at, text, properties, others, _ = found.groups()[-11:]
     return Record(
         number,
         rev,
@@ -391,4 +395,5 @@ def lent_record(found: re.Match[bytes], number: int, rev: int, version: int) -> 
         digits.number(at),
         text is not None,
         properties is not None,
+        others or (UNKNOWN_OTHERS if properties == PROPERTIES else None),
     )

@@ -6,13 +6,16 @@ ends with the block that is at fault, so that svnhist refuses it there, for its 
 """
 from __future__ import annotations
 
+import hashlib
 import re
 from collections.abc import Callable
+from functools import lru_cache
+from typing import NamedTuple
 
 from svnask.copy.index import Index
-from svnask.copy.sections import LAST_LINE, Malformed, body_of, mergeinfo_alone, number_of
+from svnask.copy.sections import LAST_LINE, Malformed, body_of, entry, number_of, split_section
 from svnask.copy.window import Window
-from svnask.copy.writer import MODS
+from svnask.copy.writer import MERGEINFO_ALONE, NO_OTHERS, PROPERTIES, mods
 from svnask.digits import number
 from svnask.paths import clean
 
@@ -39,6 +42,8 @@ LONGEST = (1 << 63) - 1
 UNKNOWN = b"Unknown: 1\n"
 COPIED = b"\nNode-copyfrom-path: "
 COPY = re.compile(rb"Node-path: ([^\n]*)\n(?s:.*)Node-copyfrom-rev: ([0-9]+)\nNode-copyfrom-path: ([^\n]*)\n")
+# How many property sections that are shorter than this are read once.
+MOST_SECTIONS, SHORT = 256, 512
 # How many pieces of a copy are written at once.
 MANY = 1024
 # The headers of a revision as Subversion writes them, and those of a record that changes a text alone.
@@ -69,6 +74,32 @@ def names_any(section: bytes, is_delta: bool, front: bytes) -> bool:
     if not section or section != LAST_LINE:
         return bool(section)
     return not is_delta and (b"Node-action: change\n" in front or COPIED in front)
+
+
+class ReadSection(NamedTuple):
+    """The last headers of a record with its property section, as they are kept, and what the section says of
+    properties, where it changes any."""
+
+    body: bytes
+    changed: bytes
+
+
+def read_section(section: bytes, is_delta: bool) -> ReadSection:
+    return read_short(section, is_delta) if len(section) < SHORT else read_anew(section, is_delta)
+
+
+def read_anew(section: bytes, is_delta: bool) -> ReadSection:
+    kept, others = split_section(section, is_delta)
+    if is_delta:
+        return ReadSection(body_of(kept), PROPERTIES if others else MERGEINFO_ALONE)
+    text = b"".join(entry(name, others[name]) for name in sorted(others))
+    # Other properties have the same name only by an unlikely chance.
+    name = hashlib.blake2b(text, digest_size=8).hexdigest().encode("ascii") if others else NO_OTHERS
+    return ReadSection(body_of(kept), b"%s %s" % (PROPERTIES, name))
+
+
+# Most files have the same properties as others.
+read_short = lru_cache(MOST_SECTIONS)(read_anew)
 
 
 class Stripper:
@@ -115,8 +146,8 @@ class Stripper:
     def _place(self, at: int) -> bytes:
         return b"At: %d\n" % (self.source.base + at) if self._places else b""
 
-    def _mods(self, has_text: bool, has_properties: bool) -> bytes:
-        return MODS[has_text, has_properties] if self._places else b""
+    def _mods(self, has_text: bool, properties: bytes) -> bytes:
+        return mods(has_text, properties) if self._places else b""
 
     def _first_line(self) -> int:
         source = self.source
@@ -192,21 +223,20 @@ class Stripper:
         begin = found.end()
         if whole < section + rest or begin + whole > len(data) or (text_delta and later_delta):
             return at
-        has_properties = False
+        kept, changed = b"\n", b""
         try:
-            kept = b"\n"
             if properties is not None:
                 has_changes = self.index.format == 3 and delta is not None
                 given = data[begin : begin + section]
-                kept = body_of(mergeinfo_alone(given, has_changes))
-                has_properties = names_any(given, has_changes, front)
+                kept, changed = read_section(given, has_changes)
+                changed = changed if names_any(given, has_changes, front) else b""
         except Malformed:
             return at
         if COPIED in front:
             self._note_copy(front)
         deltas = (delta or b"") + (text_delta or later_delta or b"")
-        mods = self._mods(text is not None, has_properties)
-        self._put(b"%s%s%s%s%s" % (front, deltas, self._place(found.start(1)), mods, kept))
+        mods_of_record = self._mods(text is not None, changed)
+        self._put(b"%s%s%s%s%s" % (front, deltas, self._place(found.start(1)), mods_of_record, kept))
         self.index.records += 1
         return begin + whole
 
@@ -273,16 +303,17 @@ class Stripper:
     def _record(self, head: bytes, raw: bytes, at: int, length: int, rest: int, is_delta: bool, has_text: bool) -> int:
         if length < 0:
             at = self._after(raw, b"", at, rest)
-            self._put(head + self._mods(has_text, False) + b"\n")
+            self._put(head + self._mods(has_text, b"") + b"\n")
             return at
         section, at = self._section(raw, at, length)
         at = self._after(raw, section, at, rest)
-        kept = section
+        found = ReadSection(body_of(section), PROPERTIES)
         try:
-            kept = mergeinfo_alone(section, is_delta) if length > 0 else section
+            found = read_section(section, is_delta) if length > 0 else found
         finally:
             # A section that is not well formed is kept as it is.
-            self._put(head + self._mods(has_text, names_any(section, is_delta, head)) + body_of(kept))
+            changed = found.changed if names_any(section, is_delta, head) else b""
+            self._put(head + self._mods(has_text, changed) + found.body)
         return at
 
     def _revision(self, head: bytes, raw: bytes, at: int, length: int, rest: int) -> int:

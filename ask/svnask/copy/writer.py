@@ -9,13 +9,15 @@ from svnask.copy.sections import LAST_LINE, MERGEINFO, Setting, body_of, entry
 from svnask.paths import Place
 
 FIRST_LINE = b"SVN-fs-dump-format-version: 2\n\n"
-# What a record says of its text and its properties, by whether it gave and changed them.
-MODS = {
-    (False, False): b"",
-    (True, False): b"Mods: text\n",
-    (False, True): b"Mods: properties\n",
-    (True, True): b"Mods: text properties\n",
-}
+# What a record may say of properties: that it changed some, or mergeinfo alone. After the first word there may be a name
+# for all others that the path has then, which is that of none where there are none.
+PROPERTIES, MERGEINFO_ALONE, NO_OTHERS = b"properties", b"mergeinfo", b"0"
+
+
+def mods(has_text: bool, properties: bytes) -> bytes:
+    """Return the header of a record that says what it gave and changed."""
+    words = [*[b"text"] * has_text, *[properties] * bool(properties)]
+    return b"Mods: %s\n" % b" ".join(words) if words else b""
 
 
 class NewRecord(NamedTuple):
@@ -28,7 +30,8 @@ class NewRecord(NamedTuple):
     # The mergeinfo that the path has with this record, where that is said.
     mergeinfo: Setting | None = None
     has_text: bool = False
-    has_properties: bool = False
+    # What it says of properties, if it changed any.
+    properties: bytes = b""
 
     def block(self) -> bytes:
         kind = b"Node-kind: %s\n" % self.kind if self.kind else b""
@@ -37,7 +40,7 @@ class NewRecord(NamedTuple):
             path, rev = self.source
             source = b"Node-copyfrom-rev: %d\nNode-copyfrom-path: %s\n" % (rev, path[1:])
         front = b"Node-path: %s\n%sNode-action: %s\n" % (self.path[1:], kind, self.action)
-        return front + source + b"At: 0\n" + MODS[self.has_text, self.has_properties] + self._body()
+        return front + source + b"At: 0\n" + mods(self.has_text, self.properties) + self._body()
 
     def _body(self) -> bytes:
         if self.mergeinfo is None:

@@ -14,7 +14,8 @@ from sys import intern
 from typing import NamedTuple
 
 from svnask import projects
-from svnask.copy.store import Record
+from svnask.copy.store import UNKNOWN_OTHERS, Record
+from svnask.copy.writer import NO_OTHERS
 from svnask.errors import Failed
 from svnask.paths import (
     Place,
@@ -61,6 +62,16 @@ class Event(NamedTuple):
     action: str
     source: Place | None
     kind: str | None = None
+    # A name for the other properties that the record gave, None where it gave none or left those of the source.
+    others: bytes | None = None
+
+
+class GivenProperties(NamedTuple):
+    """A record that changed other properties than mergeinfo of a path, with a name for those that it gave."""
+
+    rev: int
+    number: int
+    others: bytes
 
 
 BEFORE_ALL = Event(0, 0, "", None)
@@ -74,14 +85,20 @@ class Tree:
         self._names: dict[bytes, set[bytes]] = {}
         self._known: dict[Place, bool] = {}
         self._kinds: dict[Place, str | None] = {}
+        # For each path the records that gave it other properties than it had.
+        self._given: dict[bytes, list[GivenProperties]] = {}
         # The revisions that made or unmade a path.
         self.revisions: set[int] = set()
+        names: dict[bytes, bytes] = {}
         for record in records:
-            if record.action != "change":
+            # Events share names and words.
+            others = record.others and names.setdefault(record.others, record.others)
+            if others is not None and record.action == "change":
+                self._give(record, others)
+            elif record.action != "change":
                 self.revisions.add(record.rev)
-                # Events share these words.
                 action, kind = intern(record.action), record.kind and intern(record.kind)
-                event = Event(record.rev, record.number, action, record.source, kind)
+                event = Event(record.rev, record.number, action, record.source, kind, others)
                 self._events.setdefault(record.path, []).append(event)
                 top, _, name = record.path.rpartition(b"/")
                 if name:
@@ -126,6 +143,34 @@ class Tree:
             if at and (newest is None or newest.number < events[at - 1].number):
                 newest, place = events[at - 1], top
         return newest, place
+
+    def _give(self, record: Record, others: bytes) -> None:
+        """Note what a record gave to a path, unless the last one gave it that and nothing has made the path since."""
+        given = self._given.setdefault(record.path, [])
+        if given and given[-1].others == others:
+            last = given[-1].number
+            if all(events[-1].number < last for events in map(self._events.get, tops_of(record.path)) if events):
+                return
+        given.append(GivenProperties(record.rev, record.number, others))
+
+    def changes_others(self, record: Record) -> bool:
+        """Return whether a record changes other properties than mergeinfo. So it is where that is not known."""
+        before = record.source or (record.path, record.rev - 1)
+        return record.others is not None and (record.others == UNKNOWN_OTHERS or record.others != self.others(*before))
+
+    def others(self, path: bytes, rev: int) -> bytes:
+        """Return a name for the properties but mergeinfo of a path of a revision."""
+        place: Place | None = (path, rev)
+        while place is not None:
+            event, top = self._newest(*place)
+            given = self._given.get(place[0], ())
+            at = count_up_to(given, place[1])
+            if at and (event is None or given[at - 1].number > event.number):
+                return given[at - 1].others
+            if event is not None and event.others is not None and top == place[0]:
+                return event.others
+            place = self.source(*place)
+        return NO_OTHERS
 
     def source(self, path: bytes, rev: int) -> Place | None:
         """Return where the node at a path of a revision was copied from last, if it was."""
@@ -380,7 +425,7 @@ def chains_of(lives: Sequence[Life]) -> list[list[Life]]:
     return chains
 
 
-def count_up_to(events: Sequence[Event], rev: int) -> int:
+def count_up_to(events: Sequence[Event | GivenProperties], rev: int) -> int:
     """Return how many of the events are of revisions up to this one."""
     low, high = 0, len(events)
     while low < high:

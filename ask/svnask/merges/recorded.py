@@ -22,8 +22,7 @@ MOST_PLACES = 20000
 
 
 class MergeinfoAlone:
-    """Tells whether revisions changed nothing but mergeinfo at and below a life, by their records. Of other properties
-    that change along with it they say nothing."""
+    """Tells whether revisions changed nothing but mergeinfo at and below a life, by their records."""
 
     def __init__(self, history: OpenHistory) -> None:
         self._history = history
@@ -47,7 +46,10 @@ class MergeinfoAlone:
         return sorted(
             NUL_FOR_SLASH(record.path)
             for record in self._history.records(rev, rev)
-            if record.action != "change" or record.has_text or record.path not in changed
+            if record.action != "change"
+            or record.has_text
+            or record.path not in changed
+            or self._history.tree.changes_others(record)
         )
 
 

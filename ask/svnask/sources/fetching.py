@@ -18,7 +18,7 @@ from svnask.sources.entries import Entry
 from svnask.sources.logged import LoggedRevision, logged_revisions
 from svnask.sources.progress import Progress
 from svnask.sources.subversion import Repository, Subversion
-from svnask.sources.values import MergeinfoValues
+from svnask.sources.values import mergeinfo_values, other_changes
 
 if TYPE_CHECKING:
     from svnask.copy import strip, window
@@ -34,12 +34,19 @@ UNREADABLE = ("E220001: ", "E175013: ")
 
 
 class FetchedPart:
-    """Neighbouring revisions, of which the values of mergeinfo are asked for."""
+    """Neighbouring revisions, of which the values of mergeinfo are asked for, and changes of other properties."""
 
     def __init__(self, svn: Subversion, root: str, revisions: list[LoggedRevision]) -> None:
         self.revisions = revisions
         wanted = [each for revision in revisions for each in revision.wanted()]
-        self.values = MergeinfoValues(svn.words, root, wanted)
+        self.values = mergeinfo_values(svn.words, root, wanted)
+        places = [each for revision in revisions for each in revision.of_properties()]
+        self.changes = other_changes(svn.words, root, places)
+
+    def close(self) -> None:
+        """End what still asks."""
+        self.values.close()
+        self.changes.close()
 
 
 class Fetch:
@@ -71,7 +78,7 @@ class Fetch:
         """End the commands that still run."""
         self._revisions.close()
         for piece in self._asked:
-            piece.values.close()
+            piece.close()
 
     def write(self, file: IO[bytes]) -> None:
         """Write what comes at the end of a copy, until it is worth to be kept."""
@@ -118,7 +125,7 @@ class Fetch:
     def _written(self) -> Iterator[FetchedPart]:
         """Yield the first part, which is over when the next one is wanted."""
         yield self._asked[0]
-        self._asked.popleft().values.close()
+        self._asked.popleft().close()
 
     def _write_log(self, file: IO[bytes], pieces: Iterator[FetchedPart]) -> None:
         writer = CopyWriter(self.index, file.write)
@@ -136,11 +143,11 @@ class Fetch:
             raise Failed(f"svn printed no log of r{len(self.index.revisions)}")
 
     def _write_piece(self, writer: CopyWriter, piece: FetchedPart) -> None:
-        values = iter(piece.values)
+        values, changes = iter(piece.values), iter(piece.changes)
         for revision in piece.revisions:
             if revision.number != len(self.index.revisions):
                 raise Failed(f"svn printed the log of r{revision.number} after r{len(self.index.revisions) - 1}")
-            writer.revision(section_of(revision.properties), revision.records(values))
+            writer.revision(section_of(revision.properties), revision.records(values, changes))
         self.index.size = self.index.length
 
     def _write_dump(self, file: IO[bytes]) -> None:

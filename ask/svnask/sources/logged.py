@@ -6,9 +6,9 @@ from collections.abc import Generator, Iterable, Iterator
 from typing import NamedTuple
 
 from svnask.copy.sections import Setting
-from svnask.copy.writer import NewRecord
+from svnask.copy.writer import MERGEINFO_ALONE, PROPERTIES, NewRecord
 from svnask.errors import Failed
-from svnask.paths import Place, is_at_or_below, parent_of, tops_of
+from svnask.paths import Place, is_at_or_below, parent_of, tops_above, tops_of
 from svnask.sources.commands import bytes_of
 from svnask.sources.subversion import Properties, Subversion
 from svnask.sources.values import WantedValues
@@ -30,8 +30,14 @@ class LoggedPath(NamedTuple):
     has_text: bool
     may_have_properties: bool
 
-    def records(self, values: Iterator[bytes | None]) -> list[NewRecord]:
-        """Return the records of the change, as svnadmin writes them, given the values of paths that may have one."""
+    @property
+    def is_of_properties(self) -> bool:
+        """Return whether it changed nothing but properties."""
+        return self.action == "M" and self.may_have_properties and not self.has_text
+
+    def records(self, values: Iterator[bytes | None], is_of_mergeinfo: bool) -> list[NewRecord]:
+        """Return the records of the change, as svnadmin writes them, given the values of paths that may have one, and
+        whether it changed no other properties than mergeinfo."""
         action, source = ACTIONS[self.action], self.source
         if self.action == "D":
             return [NewRecord(self.path, action)]
@@ -41,8 +47,9 @@ class LoggedPath(NamedTuple):
         before = []
         if source is not None and self.action == "R":
             before, action = [NewRecord(self.path, ACTIONS["D"])], ACTIONS["A"]
-        kind = self.kind.encode("ascii")
-        return [*before, NewRecord(self.path, action, kind, source, setting, self.has_text, self.may_have_properties)]
+        kind, changed = self.kind.encode("ascii"), MERGEINFO_ALONE if is_of_mergeinfo else PROPERTIES
+        properties = changed if self.may_have_properties else b""
+        return [*before, NewRecord(self.path, action, kind, source, setting, self.has_text, properties)]
 
 
 class LoggedRevision(NamedTuple):
@@ -52,9 +59,21 @@ class LoggedRevision(NamedTuple):
     properties: Properties
     paths: list[LoggedPath]
 
-    def records(self, values: Iterator[bytes | None]) -> list[NewRecord]:
-        """Return the records, given the values of the wanted paths."""
-        return [record for path in self.paths for record in path.records(values)]
+    def records(self, values: Iterator[bytes | None], changes: Iterator[bool]) -> list[NewRecord]:
+        """Return the records, given the values of the wanted paths, and whether other properties were changed where that
+        matters."""
+        of_mergeinfo = {path for path, _ in self.of_properties() if not next(changes)}
+        return [record for path in self.paths for record in path.records(values, path.path in of_mergeinfo)]
+
+    def of_properties(self) -> Iterator[Place]:
+        """Yield the paths at and below which the revision changed nothing but properties. It may have recorded a merge
+        there."""
+        if any(each.is_of_properties for each in self.paths):
+            others = [each.path for each in self.paths if not each.is_of_properties]
+            above, made = tops_above(others), {each.path for each in self.paths if each.action in ADDED}
+            for each in self.paths:
+                if each.is_of_properties and each.path not in above and made.isdisjoint(tops_of(each.path)):
+                    yield each.path, self.number
 
     def wanted(self) -> Iterator[WantedValues]:
         """Yield the paths whose values of mergeinfo the log does not have. In a new folder svn looks at all at once."""

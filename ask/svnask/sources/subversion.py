@@ -14,7 +14,7 @@ from svnask.sources.commands import bytes_of, element_of, elements, output_of, p
 from svnask.sources.urls import ancestors, canonical, target
 
 # That the lines of a value end in several ways, and that a date can't be read.
-MIXED, BOGUS = "E135000: ", "E125003: "
+MIXED, BOGUS = "E135000", "E125003: "
 # How svn prints a byte that it can't.
 ESCAPED = re.compile(rb"\?\\[0-9A-F]{2}")
 # How many revisions are named to svn one by one.

@@ -1,18 +1,22 @@
-"""Values of `svn:mergeinfo`, for which several processes of svn ask at once."""
+"""Values of `svn:mergeinfo`, and whether other properties changed, for which several processes of svn ask at once."""
 from __future__ import annotations
 
 import re
 import tempfile
+import xml.etree.ElementTree as xml
 from abc import ABC, abstractmethod
-from collections import deque
-from collections.abc import Iterable, Iterator, Sequence
+from collections import Counter, deque
+from collections.abc import Callable, Iterable, Iterator, Sequence
 from contextlib import closing
-from typing import NamedTuple
+from itertools import groupby
+from typing import Generic, NamedTuple, Optional, TypeVar
 from urllib.parse import unquote_to_bytes as unquote
 
 from svnask.copy.sections import MERGEINFO
 from svnask.errors import Failed
-from svnask.sources.commands import Command, elements, property_value
+from svnask.paths import Place
+from svnask.sources.commands import Command, bytes_of, elements, property_value
+from svnask.sources.subversion import MIXED, Properties
 from svnask.sources.urls import canonical, path_below, target
 
 # How many processes ask at once, how many targets each of them has, and how long its words are together.
@@ -23,6 +27,9 @@ ASKING = {"--non-interactive", "--force-interactive"}
 LACKING = re.compile(r"^svn: warning: W200017: .* not found on '(.*)'$", re.MULTILINE)
 CODE, WITHOUT_VALUE = re.compile("^svn: (?:warning: )?([EW][0-9]{6}): ", re.MULTILINE), {"W200017", "E200000"}
 
+S = TypeVar("S")
+T = TypeVar("T")
+
 
 class WantedValues(NamedTuple):
     """Paths of a revision whose values are wanted. All of them may be in a folder that is new there."""
@@ -32,29 +39,31 @@ class WantedValues(NamedTuple):
     folder: bytes | None = None
 
 
-class SvnPropget(ABC):
-    """A process of svn that is asked for values. It asks the user nothing, since several run at once."""
+class AskedSvn(ABC, Generic[T]):
+    """A process of svn that is asked about properties. It asks the user nothing, since several run at once."""
+
+    verb: tuple[str, ...] = ("propget", MERGEINFO.decode())
 
     def __init__(self, words: Sequence[str], targets: Sequence[str], is_alone: bool = False) -> None:
         self._words, self._targets, self._is_alone = words, targets, is_alone
         own = () if is_alone or set(words) & ASKING else ("--non-interactive",)
         self._output = tempfile.TemporaryFile()
-        self._command = Command(("svn", "propget", MERGEINFO.decode(), "--xml", *own, *words, *targets), self._output)
+        self._command = Command(("svn", *self.verb, "--xml", *own, *words, *targets), self._output)
 
     def close(self) -> None:
         self._command.close()
         self._output.close()
 
     @abstractmethod
-    def alone(self) -> SvnPropget:
+    def alone(self) -> AskedSvn[T]:
         """Ask the same once more."""
 
     @abstractmethod
-    def found(self) -> Iterator[bytes | None]:
-        """Yield the values that svn printed."""
+    def found(self) -> Iterator[T]:
+        """Yield the answers that svn printed."""
 
-    def values(self) -> Iterator[bytes | None]:
-        """Yield the values in the order in which they are wanted. What failed is asked for once more, by a process that
+    def answers(self) -> Iterator[T]:
+        """Yield the answers in the order in which they are wanted. What failed is asked for once more, by a process that
         may ask for a password, as svn does by itself."""
         status = self._command.process.wait()
         said = set(CODE.findall(self._command.said()))
@@ -65,13 +74,13 @@ class SvnPropget(ABC):
             raise self._command.failure()
         else:
             with closing(self.alone()) as again:
-                yield from again.values()
+                yield from again.answers()
 
 
-class OfTargets(SvnPropget):
-    """Asks about paths of any revisions."""
+class OfTargets(AskedSvn[Optional[bytes]]):
+    """Asks for values of paths of any revisions."""
 
-    def alone(self) -> SvnPropget:
+    def alone(self) -> OfTargets:
         return OfTargets(self._words, self._targets, is_alone=True)
 
     def found(self) -> Iterator[bytes | None]:
@@ -87,21 +96,21 @@ class OfTargets(SvnPropget):
             # A warning names a target in another way.
             for each in self._targets:
                 with closing(OfTargets(self._words, [each])) as one:
-                    yield from one.values()
+                    yield from one.answers()
         elif lacking:
             yield None
         else:
             raise Failed("what svn prints cannot be written")
 
 
-class OfFolder(SvnPropget):
-    """Asks about all that is in a folder."""
+class OfFolder(AskedSvn[Optional[bytes]]):
+    """Asks for values of all that is in a folder."""
 
     def __init__(self, words: Sequence[str], root: str, wanted: WantedValues, is_alone: bool = False) -> None:
         super().__init__(("-R", *words), [target(root, wanted.folder or b"/", wanted.rev)], is_alone)
         self._root, self._wanted = root, wanted
 
-    def alone(self) -> SvnPropget:
+    def alone(self) -> OfFolder:
         return OfFolder(self._words[1:], self._root, self._wanted, is_alone=True)
 
     def found(self) -> Iterator[bytes | None]:
@@ -112,42 +121,80 @@ class OfFolder(SvnPropget):
         return map(found.get, self._wanted.paths)
 
 
-class MergeinfoValues:
-    """The values that paths of revisions have themselves, or None, in their order. They are asked for at once."""
+class OfPairs(AskedSvn[bool]):
+    """Asks whether revisions changed other properties than mergeinfo of paths that were there before."""
 
-    def __init__(self, words: Sequence[str], root: str, wanted: Sequence[WantedValues]) -> None:
-        self._words, self._root = words, root
-        count = sum(len(each.paths) for each in wanted if each.folder is None)
-        self._most = min(max(count // PROCESSES, FEWEST), MOST)
-        self._left = self._parts(wanted)
-        self._running: deque[SvnPropget] = deque()
+    verb = ("proplist", "-v")
+
+    def __init__(self, words: Sequence[str], root: str, places: Sequence[Place], is_alone: bool = False) -> None:
+        super().__init__(words, [target(root, path, rev) for place in places for path, rev in both(place)], is_alone)
+        self._root, self._places = root, places
+
+    def alone(self) -> OfPairs:
+        return OfPairs(self._words, self._root, self._places, is_alone=True)
+
+    def answers(self) -> Iterator[bool]:
+        """Yield the answers, and that properties were changed where svn can't print them."""
+        self._command.process.wait()
+        if MIXED not in CODE.findall(self._command.said()):
+            yield from super().answers()
+        elif len(self._places) == 1:
+            yield True
+        else:
+            for place in self._places:
+                yield from self._of_place(place)
+
+    def _of_place(self, place: Place) -> Iterator[bool]:
+        with closing(OfPairs(self._words, self._root, [place])) as one:
+            yield from one.answers()
+
+    def found(self) -> Iterator[bool]:
+        """Yield whether the properties differ. svn prints nothing of a path of a revision that has none, so what it prints
+        may be of several revisions of one path: then each is asked about by itself."""
+        printed: dict[bytes | None, list[Properties]] = {path: [] for path, _ in self._places}
+        for each in elements(self._output, "target"):
+            path = path_below(canonical(each.attrib["path"]), self._root)
+            printed.setdefault(path, []).append(other_properties(each))
+        counts = Counter(path for path, _ in self._places)
+        left = {path: iter(of_path) for path, of_path in printed.items()}
+        for place in self._places:
+            count = counts[place[0]]
+            if len(printed) > len(counts):
+                # svn names a path in another way.
+                yield True
+            elif count > 1 and len(printed[place[0]]) < 2 * count:
+                yield from self._of_place(place)
+            else:
+                yield next(left[place[0]], {}) != next(left[place[0]], {})
+
+
+def both(place: Place) -> tuple[Place, Place]:
+    """Return a path of a revision in the revision before it, and in that."""
+    path, rev = place
+    return (path, rev - 1), place
+
+
+def other_properties(element: xml.Element) -> Properties:
+    """Return the properties that an element has, but for mergeinfo."""
+    found = {bytes_of(each.attrib["name"]): property_value(each) for each in element.iter("property")}
+    return {name: value for name, value in found.items() if name != MERGEINFO}
+
+
+class AtOnce(Generic[T]):
+    """The answers of several processes that ask at once, in the order in which they are wanted."""
+
+    def __init__(self, asking: Iterator[AskedSvn[T]]) -> None:
+        self._left = asking
+        self._running: deque[AskedSvn[T]] = deque()
         self._start()
-
-    def _parts(self, wanted: Iterable[WantedValues]) -> Iterator[SvnPropget]:
-        """Start a process for each folder, and one for as many other paths as a command takes."""
-        part: list[str] = []
-        length = 0
-        for each in wanted:
-            words = [target(self._root, path, each.rev) for path in each.paths if each.folder is None]
-            for word in words or [""]:
-                if part and (not word or len(part) == self._most or length + len(word) > LONGEST):
-                    yield OfTargets(self._words, part)
-                    part, length = [], 0
-                if word:
-                    part.append(word)
-                    length += len(word)
-            if each.folder is not None:
-                yield OfFolder(self._words, self._root, each)
-        if part:
-            yield OfTargets(self._words, part)
 
     def _start(self) -> None:
         while len(self._running) < PROCESSES and (asked := next(self._left, None)):
             self._running.append(asked)
 
-    def __iter__(self) -> Iterator[bytes | None]:
+    def __iter__(self) -> Iterator[T]:
         while self._running:
-            yield from self._running[0].values()
+            yield from self._running[0].answers()
             self._running.popleft().close()
             self._start()
 
@@ -155,3 +202,44 @@ class MergeinfoValues:
         """End what still asks."""
         for asked in self._running:
             asked.close()
+
+
+def mergeinfo_values(words: Sequence[str], root: str, wanted: Sequence[WantedValues]) -> AtOnce[bytes | None]:
+    """Ask for the values that paths of revisions have themselves, or None: a process for each folder, and one for as many
+    other paths as a command takes."""
+    most = most_of(sum(len(each.paths) for each in wanted if each.folder is None))
+
+    def asking() -> Iterator[AskedSvn[bytes | None]]:
+        for is_folder, group in groupby(wanted, key=lambda each: each.folder is not None):
+            if is_folder:
+                yield from (OfFolder(words, root, each) for each in group)
+            else:
+                targets = (target(root, path, each.rev) for each in group for path in each.paths)
+                yield from (OfTargets(words, part) for part in fitting(targets, most, len))
+
+    return AtOnce(asking())
+
+
+def other_changes(words: Sequence[str], root: str, places: Sequence[Place]) -> AtOnce[bool]:
+    """Ask whether revisions changed other properties than mergeinfo of paths that were there before."""
+    parts = fitting(places, most_of(len(places)), lambda place: 2 * len(target(root, *place)))
+    return AtOnce(OfPairs(words, root, part) for part in parts)
+
+
+def most_of(count: int) -> int:
+    """Return of how many paths a process is asked, given how many there are."""
+    return min(max(count // PROCESSES, FEWEST), MOST)
+
+
+def fitting(items: Iterable[S], most: int, size: Callable[[S], int]) -> Iterator[list[S]]:
+    """Split items into parts of which a command takes the words."""
+    part: list[S] = []
+    length = 0
+    for each in items:
+        if part and (len(part) == most or length + size(each) > LONGEST):
+            yield part
+            part, length = [], 0
+        part.append(each)
+        length += size(each)
+    if part:
+        yield part
