@@ -126,10 +126,11 @@ def made_anew(count: int) -> bytes:
 
 
 def renamed_files(count: int) -> bytes:
-    """One revision that renames many files."""
+    """One revision that renames many files, and lists their properties, which are as they were."""
     files = [b"trunk/f%d" % number for number in range(count)]
-    moves = [node for file in files for node in (copied(file + b".c", file, 1), deleted(file))]
-    return dump_of([*FOLDERS, *(added(file, FILE) for file in files)], moves)
+    same = section({b"x": b"1"})
+    moves = [node for file in files for node in (copied(file + b".c", file, 1, properties=same), deleted(file))]
+    return dump_of([*FOLDERS, *(added(file, FILE, same) for file in files)], moves)
 
 
 def renames(count: int) -> bytes:

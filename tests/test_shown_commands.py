@@ -59,6 +59,7 @@ for row in sqlite3.connect(sys.argv[1]).execute(sys.argv[2]):
         "printf '<property name=\"svn:%s\">%s</property>' date 2024-01-01T00:19:00.000000Z",
         "printf '<property name=\"svn:%s\">%s</property>' log 'Merge what is for the directory alone'",
         "exec echo '</properties>' ;;",
+        "'proplist -v --xml --non-interactive '*) exec echo '<properties></properties>' ;;",
         "'log --xml --with-all-revprops -r 1:19 -v https://svn.example.org/repo@')",
         'exec svnask "$INTEROP/merges.dump" log --xml --with-all-revprops -r 1:19 -v ;;',
         "'propget svn:mergeinfo --xml --non-interactive '*)",

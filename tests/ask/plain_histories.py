@@ -133,13 +133,34 @@ class Plain:
     def is_copy_alone(self, rev: int) -> bool:
         """Return whether a revision only copies, adds folders above copies, and deletes what it copies."""
         actions = {record.path: record.action for record in self.records[rev]}
-        copies = {record.path: record.source.path for record in self.records[rev] if record.source}
+        copies = {record.path: record.source for record in self.records[rev] if record.source}
+        deleted = {source.path for source in copies.values()}
         return bool(copies) and all(
-            path in copies
-            or (action == b"add" and any(plain.is_below(copy, path) for copy in copies))
-            or (action == b"delete" and path in copies.values())
+            self.is_plain_copy(path, rev, copies[path])
+            if path in copies
+            else (action == b"delete" and path in deleted)
+            or (action == b"add" and any(plain.is_below(copy, path) for copy in copies) and self.is_bare(path, rev))
             for path, action in actions.items()
         )
+
+    def is_bare(self, path: plain.Path, rev: int) -> bool:
+        """Return whether a revision makes a directory without properties where nothing was."""
+        return path not in self.history.trees[rev - 1] and not self.properties[rev][path]
+
+    def is_plain_copy(self, path: plain.Path, rev: int, source: plain.Place) -> bool:
+        """Return whether a copy changes nothing of what it copies, which is still there, and takes the place of nothing."""
+        return (
+            path not in self.texts[rev]
+            and self.properties[rev][path] == self.properties[source.revision][source.path]
+            and path not in self.history.trees[rev - 1]
+            and all(self.is_kept(source.path, each) for each in range(source.revision + 1, rev))
+        )
+
+    def is_kept(self, path: plain.Path, rev: int) -> bool:
+        """Return whether a path was there before a revision, too, and was not made anew by it."""
+        entry = self.history.trees[rev].get(path)
+        is_there = entry is not None and entry.origin == plain.Place(path, rev - 1)
+        return is_there and not self.is_copied(path, rev)
 
     def changed_by(self, rev: int) -> dict[plain.Path, bool]:
         """Return the paths that a revision changes, and whether each was only changed, and not made or deleted."""

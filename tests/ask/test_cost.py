@@ -69,7 +69,7 @@ class Shapes(base.Case):
             (shapes.merged_branches, 1200, "unmerged; migration"),
             (shapes.values_below, 1500, "new trunk branches/b; graph"),
             (shapes.made_anew, 700, "contains 2; branches --ahead-behind; log -g branches/b; migration"),
-            (shapes.renamed_files, 2000, "log -v --json"),
+            (shapes.renamed_files, 2000, "log -v --json; new trunk@1 trunk"),
             (shapes.later_deletions, 1500, "log -v --json"),
             (shapes.headers, 400, "info --no-cache"),
             (

@@ -18,8 +18,10 @@ from unittest import mock
 from dev.dumps import FILE, MERGEINFO, Node, Properties, added, changed, copied, deleted, dump_of, mergeinfo, section
 from dev.tree import ROOT
 from svnask import History, Record
+from svnask.branches.bringing import Bringing
 from svnask.copy.sections import Setting
 from svnask.history.open_history import OpenHistory
+from svnask.masks import mask_between
 from svnask.merges.recorded import MergeinfoAlone
 from svnask.paths import Place
 from svnask.sources import commands, fetching, logged, values
@@ -43,12 +45,13 @@ def record_of(record: Record) -> tuple[object, ...]:
 
 
 class Known(NamedTuple):
-    """The records of a history in the order of their paths, the properties of its revisions, and the paths at and below
-    which some of these changed nothing but mergeinfo."""
+    """The records of a history in the order of their paths, the properties of its revisions, the paths at and below
+    which some of these changed nothing but mergeinfo, and the set of those that bring something."""
 
     records: list[tuple[object, ...]]
     properties: list[dict[bytes, bytes]]
     alone: list[Place]
+    bringing: int
 
 
 def all_of(history: OpenHistory) -> Known:
@@ -61,6 +64,7 @@ def all_of(history: OpenHistory) -> Known:
         records,
         [history.revision(rev).properties for rev in range(history.head + 1)],
         [place for place, life in lives.items() if life is not None and alone.is_so(life, place[1])],
+        Bringing(history).among(mask_between(1, history.head)),
     )
 
 

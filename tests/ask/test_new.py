@@ -3,6 +3,7 @@ from __future__ import annotations
 
 import itertools
 from concurrent.futures import ThreadPoolExecutor
+from dataclasses import replace
 from pathlib import Path
 from random import Random
 
@@ -12,7 +13,7 @@ from svnask.errors import Denied
 from svnask.history.targets import Target
 from svnask.masks import mask_of_revisions
 
-from dev.dumps import FILE, Dump, Revision, added, changed
+from dev.dumps import FILE, Dump, Node, Revision, added, changed, copied, deleted, dump_of, mergeinfo, section
 from model import definitions as plain
 from tests.ask import base
 from tests.ask.drawn_repositories import drawn, synchronized
@@ -79,6 +80,68 @@ class Lines(base.Case):
         revisions = [Revision(rev, each, base.named(rev, "")) for rev, each in enumerate(nodes, 1)]
         dump = self.made("dump", bytes(Dump([Revision(0), *revisions])))
         self.assertEqual(self.asked(dump, "new", "empty", "trunk", "--markdown"), b"- r2 (alice)\n")
+
+
+class Copies(base.Case):
+    """Copies that only copy are left out, and those that change or bring back something are not."""
+
+    FILES = (b"a", b"b", b"c", b"d", b"e", b"f", b"g", b"h", b"i")
+
+    def test_what_is_edited_or_brought_back_is_listed(self) -> None:
+        other, same = section({b"p": b"2"}), section({b"p": b"1"})
+        restored = copied(b"trunk/i", b"trunk/i", 1)
+        rows: tuple[tuple[bool, list[Node]], ...] = (
+            (False, [deleted(b"trunk/i"), copied(b"trunk/i2", b"trunk/i", 1)]),
+            (False, [copied(b"trunk/a2", b"trunk/a", 1), deleted(b"trunk/a")]),
+            (True, [replace(copied(b"trunk/b2", b"trunk/b", 1), text=b"edited"), deleted(b"trunk/b")]),
+            (True, [replace(copied(b"trunk/c2", b"trunk/c", 1), text=b"edited")]),
+            (True, [copied(b"trunk/d2", b"trunk/d", 1, properties=other), deleted(b"trunk/d")]),
+            # A list of all properties, which are as they were.
+            (False, [copied(b"trunk/e2", b"trunk/e", 1, properties=same), deleted(b"trunk/e")]),
+            (True, [copied(b"trunk/e3", b"trunk/e2", 7, properties=mergeinfo(b"/trunk/b:1"))]),
+            (False, [added(b"trunk/dir"), copied(b"trunk/dir/f", b"trunk/f", 1)]),
+            (True, [added(b"trunk/dir2", properties=other), copied(b"trunk/dir2/f", b"trunk/f", 1)]),
+            (True, [restored]),
+            (True, [copied(b"trunk/g", b"trunk/f", 1, b"replace")]),
+            (True, [copied(b"trunk/a3", b"trunk/a", 1)]),
+            (False, [copied(b"trunk/h2", b"trunk/h", 1)]),
+        )
+        files = [added(b"trunk/" + name, FILE, same, name) for name in self.FILES]
+        dump = self.made("dump", dump_of([added(b"trunk"), *files], *(nodes for _, nodes in rows)))
+        listed = [rev for rev, (is_listed, _) in enumerate(rows, 2) if is_listed]
+        found = base.objects(dump, "new", "trunk@1", "trunk")
+        self.assertEqual([each["revision"] for each in found], listed[::-1])
+
+    def test_a_branch_with_one_rename_that_edits_is_ahead(self) -> None:
+        rename = [replace(copied(b"branches/b/g", b"branches/b/f", 2), text=b"edited"), deleted(b"branches/b/f")]
+        first = [added(b"trunk"), added(b"branches"), added(b"trunk/f", FILE, text=b"x")]
+        dump = self.made("dump", dump_of(first, [copied(b"branches/b", b"trunk", 1)], rename))
+        (branch, _) = base.objects(dump, "branches", "--ahead-behind")
+        self.assertEqual((branch["path"], branch["ahead"], branch["behind"]), ("/branches/b", 1, 0))
+
+
+class AheadAndBehind(base.Case):
+    """How far branches are from a target is how many revisions `new` lists, both ways."""
+
+    count = 0
+
+    def check(self, dump: Path) -> None:
+        done = base.called("--json", dump, "branches", "--ahead-behind=trunk", "/*", "/*/*")
+        for each in done.objects if done.status == 0 else ():
+            if each["ahead"] is not None:
+                pairs = itertools.permutations(("trunk", each["path"] + "@"))
+                ahead, behind = (len(base.objects(dump, "new", *pair)) for pair in pairs)
+                self.assertEqual((each["ahead"], each["behind"]), (ahead, behind), (dump.name, each["path"]))
+                self.count += ahead + behind
+
+    def test_the_recorded_repositories(self) -> None:
+        for name in base.names():
+            self.check(base.dump_of(name))
+        self.assertGreater(self.count, 50)
+
+    def test_drawn_histories(self) -> None:
+        self.drawn(30, drawn, self.check)
+        self.drawn(2, synchronized, self.check)
 
 
 class Threads(base.Case):

@@ -11,7 +11,7 @@ from svnask.history.lives import lives_in
 from svnask.history.open_history import OpenHistory
 from svnask.masks import mask_between, mask_of_revisions, members_of
 from svnask.merges.value_changes import Differences
-from svnask.paths import joined, rest_below, tops_above, tops_of
+from svnask.paths import Place, joined, rest_below, tops_above, tops_of
 
 # Of how many paths the lives are kept.
 MOST_LIVES = 1000
@@ -23,18 +23,6 @@ class AskedOrigin(NamedTuple):
     changed: bytes
     path: bytes
     query: Log
-
-
-def is_copy_alone(changes: list[Change]) -> bool:
-    """Return whether a revision copied, made folders above a copy, deleted what it copied, and changed nothing else."""
-    above = tops_above(change.path for change in changes if change.source is not None)
-    sources = {change.source[0] for change in changes if change.source is not None}
-    return bool(changes) and all(
-        change.source is not None
-        or (change.letter == "A" and change.path in above)
-        or (change.letter == "D" and change.path in sources)
-        for change in changes
-    )
 
 
 class Looked(NamedTuple):
@@ -75,7 +63,7 @@ class Bringing:
         for rev in asked:
             changes, targets = self._history.changes(rev), self._targets(rev)
             rest = [each.path for each in changes if each.has_text or each.path not in targets]
-            if (rest or not targets) and not is_copy_alone(changes):
+            if (rest or not targets) and not self._is_copy_alone(rev, changes):
                 found.add(rev)
                 if targets:
                     left[rev] = self._origins(rev, targets, rest)
@@ -86,6 +74,38 @@ class Bringing:
             ):
                 found.remove(rev)
         return found
+
+    def _is_copy_alone(self, rev: int, changes: list[Change]) -> bool:
+        """Return whether a revision copied, made folders above a copy, deleted what it copied, and changed nothing else."""
+        above = tops_above(change.path for change in changes if change.source is not None)
+        sources = {change.source[0] for change in changes if change.source is not None}
+        changed = self._changed_copies(rev) if any(change.has_properties for change in changes) else set()
+        return bool(changes) and all(
+            (change.letter == "D" and change.path in sources)
+            or (change.letter == "A" and change.path in above and not change.has_properties)
+            if change.source is None
+            else not (change.has_text or change.path in changed or self._restores(rev, change.path, change.source))
+            for change in changes
+        )
+
+    def _restores(self, rev: int, path: bytes, source: Place) -> bool:
+        """Return whether a copy brings back what was gone, or takes the place of what was there."""
+        life = self._history.tree.life(*source, self._history.head)
+        return life is None or life.last < rev - 1 or self._history.tree.exists(path, rev - 1)
+
+    def _changed_copies(self, rev: int) -> set[bytes]:
+        """Return the paths to which a revision gave other properties than those of what it copied there."""
+        explicit, tree = self._history.explicit, self._history.tree
+        return {
+            record.path
+            for record in self._history.records(rev, rev)
+            if record.has_properties
+            and (
+                record.source is None
+                or tree.changes_others(record)
+                or explicit.text(record.path, rev) != explicit.text(*record.source)
+            )
+        }
 
     def _targets(self, rev: int) -> set[bytes]:
         """Return the paths whose mergeinfo a revision changed, and that were there before."""
