@@ -28,6 +28,8 @@ LOCALE = {"LC_ALL": "C.UTF-8"}
 ERROR = re.compile(r"svn[a-z]*: (?:warning: )?([EW][0-9]{6}: .*)")
 # That there is nothing at a URL of a repository, and what follows from it.
 NONE_THERE, NOT_ALL = re.compile(r"W170000: URL '.*' non-existent in revision"), "E200009: "
+# That what a command prints is too large for a file, or for the disk.
+UNWRITTEN = (f"E{errno.EFBIG:06}: ", f"E{errno.ENOSPC:06}: ")
 # What XML can't have, and what svn prints even so. Each is replaced by a sign and its number.
 SIGN = "\U0010f800"
 NOT_IN_XML = re.compile(f"[\x00-\x08\x0b\x0c\x0e-\x1f\udc80-\udcff\ufffe\uffff{SIGN}]")
@@ -113,6 +115,8 @@ class Command:
             last = said.strip() and ": " + said.strip().splitlines()[-1]
             return Failed(f"{self._name} ended with status {status}{last}")
         first, *rest = [line for line in lines if not line.startswith(NOT_ALL)] or lines
+        if first.startswith(UNWRITTEN):
+            return Failed(f"what {self._name} prints cannot be written: {first}")
         return Unreached(first, rest, NONE_THERE.match(first) is not None)
 
     def close(self) -> None:
