@@ -9,34 +9,46 @@ import re
 
 from svnask.paths import components
 
-TRUNK, BRANCH, TAG = "trunk", "branch", "tag"
+TRUNK, BRANCH, TAG, FOLDER = "trunk", "branch", "tag", "folder"
 KINDS = (TRUNK, BRANCH, TAG)
-# The names of folders of branches and tags, and of the trunk.
-FOLDERS, NAME_OF_TRUNK = (b"branches", b"tags"), b"trunk"
+# What is in a folder of this name, and the name of the trunk.
+FOLDERS, NAME_OF_TRUNK = {b"branches": BRANCH, b"tags": TAG}, b"trunk"
+SPECIAL = {*FOLDERS, NAME_OF_TRUNK}
 NAMED = re.compile(rb"(?P<project>(?:/[^/]+)*?)/(?:trunk|(?:branches|tags)/[^/]+)(?=/|\Z)")
+
+
+def named_top(path: bytes) -> bytes | None:
+    """Return the trunk, the branch or the tag by its name that a path is, or is in."""
+    found = NAMED.match(path)
+    return None if found is None else found[0]
 
 
 def is_named(path: bytes) -> bool:
     """Return whether a path is a trunk, a branch or a tag by its name."""
-    found = NAMED.match(path)
-    return found is not None and found.end() == len(path)
+    return named_top(path) == path
 
 
-def is_in_named(path: bytes) -> bool:
-    """Return whether a path is a trunk, a branch or a tag by its name, or is in one."""
-    return NAMED.match(path) is not None
+def is_trunk(path: bytes) -> bool:
+    """Return whether a path is a trunk by its name."""
+    return kind_by_name(path) == TRUNK and is_named(path)
+
+
+def is_folder(path: bytes) -> bool:
+    """Return whether a path is a folder of branches or tags by its name."""
+    return path.rpartition(b"/")[2] in FOLDERS and named_top(path) is None
 
 
 def is_special(path: bytes) -> bool:
     """Return whether a path is a trunk or a folder of branches or tags by its last component."""
-    name = path.rpartition(b"/")[2]
-    return name == NAME_OF_TRUNK or name in FOLDERS
+    return path.rpartition(b"/")[2] in SPECIAL
 
 
-def kind_of(path: bytes) -> str:
-    """Return what a trunk, a branch or a tag is, by its path."""
-    parts = components(path)
-    return TAG if b"tags" in parts[:-1] else TRUNK if parts[-1:] == [NAME_OF_TRUNK] else BRANCH
+def kind_by_name(path: bytes) -> str | None:
+    """Return what a trunk, a branch or a tag is by its name. Below a folder of branches or tags, the nearest one says
+    it."""
+    *above, name = components(path) or [b""]
+    kinds = (FOLDERS[each] for each in reversed(above) if each in FOLDERS)
+    return next(kinds, TRUNK if name == NAME_OF_TRUNK else None)
 
 
 def trunk_of(path: bytes) -> bytes | None:

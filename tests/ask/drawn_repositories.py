@@ -1,5 +1,5 @@
-"""Draws dumps of repositories: with renames, replacements, nested and reverse merges, and malformed mergeinfo, or with
-features that are synchronized with what they were copied from, and come back to it."""
+"""Draws dumps of repositories: with renames, replacements, nested and reverse merges, and malformed mergeinfo, of
+projects, or with features that are synchronized with what they were copied from, and come back to it."""
 from __future__ import annotations
 
 import random
@@ -56,6 +56,12 @@ class Entry(NamedTuple):
     properties: dict[bytes, bytes]
 
 
+# Those of projects, with folders of branches and tags.
+LAYOUTS = Names(
+    b"trunk trunk/f branches branches/p tags tags/y a a/trunk branches/one branches/p/x branches/p/f tags/1 tags/y/2 "
+    b"tags/y/f a/branches a/branches/q a/tags releases".split(),
+    (b"branches", b"tags", b"trunk", b"d", b"f"),
+)
 # The paths of a revision, those of directories before those that are in them.
 Tree = dict[bytes, Entry]
 
@@ -224,10 +230,15 @@ def properties_of(chance: random.Random, rev: int) -> dict[bytes, Optional[bytes
     return {name: value for name, value in found.items() if value is not None}
 
 
-def drawn(chance: random.Random, odd_values: Sequence[bytes] = MALFORMED) -> bytes:
+def layouts(chance: random.Random) -> bytes:
+    """A dump of projects, with branches and tags that are copied and moved as a whole, in part and in folders."""
+    return drawn(chance, (b"",), LAYOUTS)
+
+
+def drawn(chance: random.Random, odd_values: Sequence[bytes] = MALFORMED, names: Optional[Names] = None) -> bytes:
     """A dump of up to 25 revisions. Few values of mergeinfo are odd ones."""
     trees: list[Tree] = [{}]
-    names = ODD if chance.random() < 0.3 else USUAL
+    names = names or (ODD if chance.random() < 0.3 else USUAL)
     revisions = [Revision(0, (), properties_of(chance, 0) if chance.random() < 0.5 else None)]
     for rev in range(1, chance.choice((8, 14, 25)) + 1):
         draft = Draft(chance, names, odd_values, trees)

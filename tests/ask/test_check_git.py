@@ -23,7 +23,7 @@ Change = Callable[[list[Commit]], list[Commit]]
 def commits_of(history: OpenHistory) -> Iterator[Commit]:
     """Yield the commits that a good migration makes, by their revisions."""
     graph: Graph = graph_of(history, [])
-    names = {each.life: ref_of(each) for each in named_lives(life for lane in graph.lanes for life in lane.lives)}
+    names = {each.life: ref_of(each) for each in named_lives(graph.lanes)}
     merges = {(each.into, each.rev): each for each in merges_of(graph) if each.how == WHOLE}
     places = [
         (life, rev, lane) for lane in graph.lanes for life in lane.lives for rev in lane.revisions if life.has(rev)

@@ -17,7 +17,7 @@ class Layouts(base.Case):
     def branches(self, *changes: list[bytes] | list[tuple[bytes, bytes, int]]) -> list[bytes]:
         """The branches of a history of directories that are made, and of copies."""
         nodes = [[copied(*each) if isinstance(each, tuple) else added(each) for each in change] for change in changes]
-        return Tree(self.history(self.made("dump", dump_of(*nodes))).records()).branches
+        return [*Tree(self.history(self.made("dump", dump_of(*nodes))).records()).branches]
 
     def test_names(self) -> None:
         rows: tuple[tuple[bytes, bool, str], ...] = (
@@ -35,7 +35,7 @@ class Layouts(base.Case):
         for path, is_named, kind in rows:
             self.assertEqual(projects.is_named(path), is_named, path)
             if is_named:
-                self.assertEqual(projects.kind_of(path), kind, path)
+                self.assertEqual(projects.kind_by_name(path), kind, path)
         self.assertEqual(projects.trunk_of(b"/a/branches/one/f"), b"/a/trunk")
         self.assertIsNone(projects.trunk_of(b"/a/b"))
 
@@ -59,7 +59,7 @@ class Layouts(base.Case):
     def test_a_history_that_doubles_is_refused(self) -> None:
         changes = [[added(b"trunk")], *([copied(b"x%d" % rev, b"", rev)] for rev in range(1, 40))]
         dump = self.made("dump", dump_of(*changes))
-        self.check_unanswered(1, "svnask: there are more than 100000 folders", dump, "branches")
+        self.check_unanswered(1, "svnask: there are more than 200000 copies of branches", dump, "branches")
 
     def test_nothing_is_said_to_be_nothing(self) -> None:
         dump = self.made("dump", dump_of([added(b"a"), added(b"a/f", FILE)]))
@@ -83,6 +83,38 @@ class Layouts(base.Case):
         for words, status, output, said in rows:
             done = base.called(dump, "unmerged", *words)
             self.assertEqual((done.status, done.output, done.said), (status, output, said), words)
+
+    def test_what_a_branch_lacks_of_its_trunk(self) -> None:
+        folders = [*map(added, (b"trunk", b"branches", b"tags")), added(b"trunk/f", FILE)]
+        steps: list[list[Node]] = [
+            folders,
+            [
+                copied(b"branches/1.4", b"trunk", 1),
+                copied(b"branches/two", b"trunk", 1),
+                copied(b"tags/1.0", b"trunk", 1),
+            ],
+            [changed(b"trunk/f", text=b"x")],
+            [changed(b"branches/two/f", text=b"y")],
+            [changed(b"branches/1.4/f", text=b"z")],
+        ]
+        dump = self.made("dump", dump_of(*steps))
+        two, trunk, own = b"/branches/two\tr4\n", b"/trunk\tr3\n", b"/branches/1.4\tr5\n"
+        rows: tuple[tuple[str, bytes], ...] = (
+            ("--into branches/1.4", two + trunk),
+            ("--into branches/1.4@3", two + trunk),
+            ("trunk --into branches/1.4", trunk),
+            ("branches/* --into branches/1.4", two),
+            ("--into tags/1.0", own + two + trunk),
+            ("--into trunk", own + two),
+            ("--into /branches/1.4 --below branches", two),
+            ("branches/1.4", own),
+            ("trunk branches/1.4", own),
+        )
+        for words, wanted in rows:
+            self.assertEqual(self.asked(dump, "unmerged", *words.split()), wanted, words)
+        text = " ".join(base.called("unmerged", "--help").output.decode().split())
+        self.assertIn("'unmerged branches/1.4' lists what its trunk lacks", text)
+        self.assertIn("'unmerged trunk --into branches/1.4' lists what branches/1.4 lacks of the trunk", text)
 
     def test_a_branch_with_a_tab_is_left_out(self) -> None:
         changes = [

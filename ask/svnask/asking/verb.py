@@ -85,13 +85,13 @@ def patterns_of(history: OpenHistory, given: Namespace) -> list[bytes]:
     return [pattern_of(history, pattern) for pattern in given.patterns]
 
 
-def add_patterns(parser: ArgumentParser, default: str) -> None:
+def add_patterns(parser: ArgumentParser, default: str, what: str = "a path") -> None:
     parser.add_argument(
         "patterns",
         metavar="PATTERN",
         nargs="*",
         default=[],
-        help="a path, in which *, ? and [..] stand for characters of a name, and ** at the end for the trunks, the "
+        help=f"{what}, in which *, ? and [..] stand for characters of a name, and ** at the end for the trunks, the "
         f"branches and the tags at any depth; {default} if none is given",
     )
 

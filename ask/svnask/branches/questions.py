@@ -2,14 +2,14 @@
 from __future__ import annotations
 
 import itertools
-from collections.abc import Iterable, Iterator, Mapping, Sequence
+from collections.abc import Callable, Iterable, Iterator, Mapping, Sequence
 from functools import cache
 from typing import NamedTuple
 
 from svnask import projects
 from svnask.engine.queries import Answer, Answers, LocationSegments, Log, Logged, Mergeinfo, Query, Segment
 from svnask.errors import Denied
-from svnask.history.lives import Life, chains_of, is_plain, lives_at, moves_of, unmatched
+from svnask.history.lives import Life, chains_of, is_plain, lives_at, unmatched
 from svnask.history.open_history import OpenHistory
 from svnask.history.targets import Target
 from svnask.log import selection as log
@@ -29,15 +29,21 @@ HISTORY, MERGED, IN_PART, RECORDED = "history", "merged", "merged in part", "rec
 CHANGED, AGAIN, DELETED, RENAMED = "changed", "made again", "deleted", "renamed"
 
 
-def lives_of(history: OpenHistory, patterns: Sequence[bytes], kinds: Sequence[str] = projects.KINDS) -> list[Life]:
-    """The lives of all paths that match a pattern, or else those of the trunks, the branches and the tags at and below
-    the path at which the source begins. That no path ever matched a pattern is an error where it is a path itself, since
-    that is mostly a mistake. Where nothing matches, the history gives notice of it."""
+def lives_of(
+    history: OpenHistory,
+    patterns: Sequence[bytes],
+    kinds: Sequence[str] = projects.KINDS,
+    others: Iterable[bytes] = (),
+) -> list[Life]:
+    """The lives of all paths that match a pattern, or else those of the trunks, the branches and the tags, and of some
+    others, at and below the path at which the source begins. That no path ever matched a pattern is an error where it is
+    a path itself, since that is mostly a mistake. Where nothing matches, the history gives notice of it."""
     tree, top = history.tree, history.source.path
     if patterns:
         paths = {path for pattern in patterns for path in tree.matching(pattern)}
     else:
-        paths = {path for path in tree.branches if is_at_or_below(path, top) and projects.kind_of(path) in kinds}
+        found = {*others, *(path for path, kind in tree.branches.items() if kind in kinds)}
+        paths = {path for path in found if is_at_or_below(path, top)}
     lives = lives_at(tree, history.askable(sorted(paths)), history.head)
     missing = list(unmatched(tree, patterns, history.head))
     if missing or not lives:
@@ -96,22 +102,23 @@ class Listed(NamedTuple):
 
     life: Life
     last_change: int
-    # Whether it goes on with another one of those listed under a new name, and under which one it goes on itself.
+    # Whether it goes on with another one under a new name, and with which one it goes on itself.
     is_moved: bool
     moved_to: Life | None
     # Whether it is a directory of branches, and none itself.
     is_folder: bool
+    # Whether it is a trunk, a branch, a tag or a folder, if it is any of these.
+    kind: str | None
 
 
 def listed_branches(history: OpenHistory, patterns: Sequence[bytes]) -> Iterator[Listed]:
     """The lives of all paths that match a pattern, or of the trunk, the branches and the tags."""
+    tree, head = history.tree, history.head
     lives = lives_of(history, patterns)
     changes = last_changes(history, lives)
-    moves = moves_of(lives)
-    moved = set(moves.values())
     for life in lives:
-        is_folder = life.source is None and history.tree.is_folder(life.path)
-        yield Listed(life, changes[life], life in moved, moves.get(life), is_folder)
+        kind, is_moved = tree.branch_kind(life.path), tree.moved_from(life, head) is not None
+        yield Listed(life, changes[life], is_moved, tree.moved_to(life, head), kind == projects.FOLDER, kind)
 
 
 def log_of(chain: Sequence[Life], low: int) -> Log:
@@ -308,9 +315,10 @@ class Compared(NamedTuple):
 
 def unmerged(history: OpenHistory, patterns: Sequence[bytes], into: Target | None) -> Iterator[Compared]:
     """Compare each branch of today with a target, or with the trunk of its own project, as `svn mergeinfo --show-revs
-    eligible` does."""
+    eligible` does. With a target that is no trunk, that of its project counts as a branch."""
     explicit = history.explicit
-    alive = alive_in(history, lives_of(history, patterns, (projects.BRANCH,)))
+    trunks = [] if into is None else trunks_beside(history, into)
+    alive = alive_in(history, lives_of(history, patterns, (projects.BRANCH,), trunks))
     targets = targets_of(history, alive, into)
     question = mergeinfo.Question("eligible")
     about = (mergeinfo.queries_about(explicit, target, question) for target in set(targets.values()))
@@ -410,6 +418,13 @@ def trunk_of_life(history: OpenHistory, life: Life) -> bytes | None:
     return None
 
 
+def trunks_beside(history: OpenHistory, target: Target) -> list[bytes]:
+    """The trunk of the project that a target is of, which is not in it."""
+    life = history.tree.life(*target, history.head)
+    trunk = None if life is None else trunk_of_life(history, life)
+    return [] if trunk is None or is_at_or_below(target.path, trunk) else [trunk]
+
+
 class TagEvent(NamedTuple):
     """An event in the life of a tag after it was made. `other` is where a renamed tag is, or what a tag made again is a
     copy of."""
@@ -430,18 +445,47 @@ class Touched(NamedTuple):
 
 def touched(history: OpenHistory, patterns: Sequence[bytes]) -> Iterator[Touched]:
     """The tags that are not what they were copied from, that were made again, and those that were deleted or renamed."""
-    lives = lives_of(history, patterns, (projects.TAG,))
-    found = operative(lives, history.ask(logs_of(lives)))
-    changed = {life: [rev for rev in revisions if rev > life.first] for life, revisions in found.items()}
-    before: Life | None = None
-    for life in lives:
+    tags = with_other_names(history, lives_of(history, patterns, (projects.TAG,)))
+    lives = lives_at(history.tree, history.askable(sorted({life.path for life in tags})), history.head)
+    asked = [life for life in lives if life in tags]
+    found = operative(asked, history.ask(logs_of(asked)))
+    before = {life: each for each, life in zip(lives, lives[1:]) if each.path == life.path}
+    for life, revisions in found.items():
+        changed = [rev for rev in revisions if rev > life.first]
         below = any(change.path != life.path for change in history.changes_below(life.first, life.path))
-        of_path = before if before is not None and before.path == life.path else None
-        events = begin_of(life, of_path) + [TagEvent(CHANGED, rev) for rev in [life.first] * below + changed[life]]
+        events = begin_of(life, before.get(life)) + [TagEvent(CHANGED, rev) for rev in [life.first] * below + changed]
         events += end_of(history, life)
-        before = life
         if events:
-            yield Touched(life, below, changed[life], events)
+            yield Touched(life, below, changed, events)
+
+
+def with_other_names(history: OpenHistory, lives: Sequence[Life]) -> set[Life]:
+    """Return some lives with what they were under other names, before and after. Of a tag that was no tag before or after,
+    that part is left out."""
+
+    def is_tag(life: Life) -> bool:
+        return history.tree.branch_kind(life.path) == projects.TAG
+
+    named = renamed(history, [life for life in lives if not is_tag(life)])
+    return {*lives, *named, *filter(is_tag, renamed(history, lives))}
+
+
+def renamed(history: OpenHistory, lives: Sequence[Life]) -> set[Life]:
+    """Return some lives, those that they continue, one after the other, and those that continue them."""
+    tree, head = history.tree, history.head
+    found: set[Life] = set()
+    steps: tuple[Callable[[Life], Iterable[Life | None]], ...] = (
+        lambda life: [tree.moved_from(life, head)],
+        lambda life: tree.moves(life, head),
+    )
+    for step in steps:
+        seen, left = {*lives}, [*lives]
+        while left:
+            new = {life for life in step(left.pop()) if life is not None} - seen
+            seen |= new
+            left += new
+        found |= seen
+    return found
 
 
 def begin_of(life: Life, before: Life | None) -> list[TagEvent]:
@@ -454,7 +498,7 @@ def end_of(history: OpenHistory, life: Life) -> list[TagEvent]:
     if life.is_alive:
         return []
     end = life.last + 1
-    moved_to = history.tree.moved_to(life)
+    moved_to = history.tree.moved_to(life, history.head)
     if moved_to is None:
         return [TagEvent(DELETED, end)]
-    return [] if moved_to == life.path else [TagEvent(RENAMED, end, (moved_to, end))]
+    return [] if moved_to.path == life.path else [TagEvent(RENAMED, end, (moved_to.path, end))]

@@ -16,7 +16,7 @@ from typing import NamedTuple
 from svnask import files
 from svnask.copy.index import Front
 from svnask.paths import clean, joined, rest_below, tops_of
-from svnask.projects import TRUNK, is_in_named, is_named, kind_of
+from svnask.projects import TRUNK, is_named, kind_by_name, named_top
 
 # How many bytes are looked through at once, and how many more belong to a block that begins or ends there.
 PIECE, EDGE = 1 << 20, 1 << 13
@@ -103,13 +103,13 @@ class BranchNames:
 
     def _make(self, event: NameEvent) -> None:
         path, source = event.path, event.source
-        if source and source not in self._known and self._below[source] and not is_in_named(path):
+        if source and source not in self._known and self._below[source] and named_top(path) is None:
             # A project, or a folder of branches, with those in it.
             for each in list(self._below[source]):
                 self._add(joined(path, rest_below(each, source)))
         elif source in self._known or is_named(path):
             self._add(path)
-            if not source and kind_of(path) != TRUNK:
+            if not source and kind_by_name(path) != TRUNK:
                 self._made.add(path)
 
     def _add(self, path: bytes) -> None:

@@ -23,7 +23,7 @@ from svnask.history.open_history import OpenHistory
 from svnask.log.processes import count_of_processes, made
 from svnask.merges.soundness import findings
 from svnask.picture.graph import Graph, graph_of
-from svnask.projects import TAG, kind_of
+from svnask.projects import TAG
 from svnask.revisions import Revisions, in_range
 
 # How many revisions are read before they are written.
@@ -277,7 +277,7 @@ class Branches:
         for life, (number, lane, place) in self._places.items():
             origin, later = self._origin(life), self._graph.lanes[lane].lives[place + 1 :]
             source = (None, None) if life.source is None else (text(life.source[0]), life.source[1])
-            own = number, lane, text(life.path), kind_of(life.path), life.first, life.last, life.is_alive
+            own = number, lane, text(life.path), self._graph.lanes[lane].kind, life.first, life.last, life.is_alive
             yield *own, *source, self._number_of(origin), self._number_of(later[0] if later else None)
 
     def _number_of(self, life: Life | None) -> int | None:

@@ -108,7 +108,7 @@ class Comparison:
 
     def differences(self) -> Iterator[GitDifference]:
         """Yield what differs of each branch and tag of today, by their paths."""
-        alive = [each for each in named_lives(self._lanes) if each.life.is_alive]
+        alive = [each for each in named_lives(self._graph.lanes) if each.life.is_alive]
         if not alive:
             raise Denied("E160013", "there is no trunk, branch or tag today that git could have")
         is_alone = len({trunk_of(each.life.path) for each in alive}) == 1

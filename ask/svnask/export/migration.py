@@ -9,10 +9,10 @@ from svnask.branches.questions import Touched, touched
 from svnask.export.contents import Outside, empty_directories, outside_of
 from svnask.history.lives import Life
 from svnask.history.open_history import OpenHistory
-from svnask.paths import components
+from svnask.paths import components, joined
 from svnask.picture.branch_merges import BranchMerge, merges_of
-from svnask.picture.graph import Graph, graph_of
-from svnask.projects import BRANCH, KINDS, TAG, TRUNK, is_named, kind_of, trunk_of
+from svnask.picture.graph import Graph, Lane, graph_of
+from svnask.projects import BRANCH, KINDS, TAG, TRUNK, is_named, named_top, trunk_of
 from svnask.revisions import in_range
 
 # What git does not take in the name of a branch or a tag.
@@ -68,16 +68,16 @@ class Migration(NamedTuple):
 def migration_of(history: OpenHistory) -> Migration:
     history.check()
     graph = graph_of(history, [])
-    lives = [life for lane in graph.lanes for life in lane.lives]
-    trunks = sorted(life.path for life in lives if life.is_alive and kind_of(life.path) == TRUNK)
+    lives = list(named_lives(graph.lanes))
+    trunks = (each.life.path for each in lives if each.life.is_alive and each.kind == TRUNK)
     return Migration(
         authors_of(history),
         projects_of(lives),
-        list(named_lives(lives)),
-        outside_of(history, lives),
-        [path for trunk in trunks for path in empty_directories(history, trunk)],
+        lives,
+        outside_of(history, (each.life for each in lives)),
+        [path for trunk in sorted(trunks) for path in empty_directories(history, trunk)],
         list(several_in(graph)),
-        list(touched(history, ())) if any(kind_of(life.path) == TAG for life in lives) else [],
+        list(touched(history, ())) if any(each.kind == TAG for each in lives) else [],
         list(merges_of(graph)),
     )
 
@@ -91,24 +91,25 @@ def authors_of(history: OpenHistory) -> list[Author]:
     return sorted(authors, key=lambda author: (author.name is not None, author.name or b""))
 
 
-def projects_of(lives: Iterable[Life]) -> list[Project]:
+def projects_of(lives: Iterable[NamedLife]) -> list[Project]:
     """Return the projects of what is there today, by their folders."""
     found: dict[bytes, dict[str, set[bytes]]] = {}
-    for life in lives:
+    for life, kind, _, _ in lives:
         if life.is_alive and trunk_of(life.path) is not None:
             kinds = found.setdefault(project_of(life.path), {kind: set() for kind in KINDS})
-            kinds[kind_of(life.path)].add(life.path)
+            kinds[kind].add(life.path)
     return [
         Project(path, min(kinds[TRUNK], default=None), len(kinds[BRANCH]), len(kinds[TAG]))
         for path, kinds in sorted(found.items())
     ]
 
 
-def named_lives(lives: Iterable[Life]) -> Iterator[NamedLife]:
-    """Yield the lives by their paths, with their names in git."""
+def named_lives(lanes: Iterable[Lane]) -> Iterator[NamedLife]:
+    """Yield the lives of some lanes by their paths, with their names in git."""
     known: set[tuple[str, bytes]] = set()
-    for life in sorted(lives, key=lambda life: (life.path, -life.first)):
-        kind, name = kind_of(life.path), name_in_git(life.path)
+    lives = ((life, lane.kind) for lane in lanes for life in lane.lives)
+    for life, kind in sorted(lives, key=lambda each: (each[0].path, -each[0].first)):
+        name = name_in_git(life.path)
         key = TAG if kind == TAG else BRANCH, name
         yield NamedLife(life, kind, name, reason_against(name, key in known))
         known.add(key)
@@ -135,21 +136,29 @@ def rules_of(migration: Migration) -> Iterator[bytes]:
     for name in repositories.values():
         yield b"create repository %s\nend repository\n\n" % name
     # What stands elsewhere comes first, since the first rule that matches counts.
-    for each in migration.lives:
-        project = project_of(each.life.path)
-        if each.life.is_alive and project in repositories and not is_named(each.life.path):
+    others = {each.life.path: each for each in migration.lives if not is_named(each.life.path)}
+    for path, each in others.items():
+        project = project_of(path)
+        if project in repositories:
             own = each.name[len(project.strip(b"/")) :].lstrip(b"/")
-            yield rule(escaped_in_rule(each.life.path), repositories[project], own)
+            place = b"refs/tags/" if each.kind == TAG else b""
+            yield rule(escaped_in_rule(path), repositories[project], place + own)
+    folders = {named_top(path) or b"" for path in others}
     for path, name in repositories.items():
         top = escaped_in_rule(path.rstrip(b"/"))
         yield rule(top + b"/trunk", name, b"master")
+        yield from (recursion(each) for each in sorted(folders) if each and project_of(each) == path)
         yield rule(top + b"/branches/([^/]+)", name, rb"\1")
         yield rule(top + b"/tags/([^/]+)", name, rb"refs/tags/\1")
     # Folders that were copied as a whole.
     for path in repositories:
-        for below in (b"/", b"/branches/", b"/tags/"):
-            yield b"match %s\n  action recurse\nend match\n\n" % (escaped_in_rule(path.rstrip(b"/")) + below)
+        yield from (recursion(joined(path, name)) for name in (b"", b"branches", b"tags"))
     yield b"match /\nend match\n"
+
+
+def recursion(path: bytes) -> bytes:
+    """Return the rule by which each path in a directory has its own rule."""
+    return b"match %s/\n  action recurse\nend match\n\n" % escaped_in_rule(path.rstrip(b"/"))
 
 
 def rule(pattern: bytes, repository: bytes, branch: bytes) -> bytes:

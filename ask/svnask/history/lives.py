@@ -13,26 +13,14 @@ from collections.abc import Iterable, Iterator, Sequence
 from sys import intern
 from typing import NamedTuple
 
-from svnask import projects
 from svnask.copy.store import UNKNOWN_OTHERS, Record
 from svnask.copy.writer import NO_OTHERS
-from svnask.errors import Failed
-from svnask.paths import (
-    Place,
-    components,
-    is_at_or_below,
-    joined,
-    moved,
-    parent_of,
-    rest_below,
-    tops_above,
-    tops_of,
-)
+from svnask.history.branch_paths import BranchPaths
+from svnask.paths import Place, components, is_at_or_below, joined, moved, rest_below, tops_above, tops_of
+from svnask.projects import FOLDER, SPECIAL, is_special
 
 # As the last component of a pattern, the branches at any depth.
 ANY_DEPTH = b"**"
-# How many folders of branches come with copies of what they are in, at most. Some histories double with each copy.
-MOST_COPIED = 100000
 
 
 class Life(NamedTuple):
@@ -87,6 +75,8 @@ class Tree:
         self._kinds: dict[Place, str | None] = {}
         # For each path the records that gave it other properties than it had.
         self._given: dict[bytes, list[GivenProperties]] = {}
+        # Whether a record ever put a file into a path.
+        self._filed: dict[bytes, bool] = {}
         # The revisions that made or unmade a path.
         self.revisions: set[int] = set()
         names: dict[bytes, bytes] = {}
@@ -172,6 +162,10 @@ class Tree:
             place = self.source(*place)
         return NO_OTHERS
 
+    def sources(self, path: bytes) -> set[bytes]:
+        """Return the paths that the lives of a path were copied from."""
+        return {life.source[0] for life in self.lives(path, 0) if life.source is not None}
+
     def source(self, path: bytes, rev: int) -> Place | None:
         """Return where the node at a path of a revision was copied from last, if it was."""
         return self._step(path, rev)[1]
@@ -224,6 +218,24 @@ class Tree:
                     left.append(source)
         return found
 
+    def has_files(self, path: bytes) -> bool:
+        """Return whether a record ever put a file directly into a path."""
+        if path not in self._filed:
+            places = (joined(path, name) for name in self._names.get(path, ()))
+            self._filed[path] = any(self._is_file(each, event) for each in places for event in self._events[each])
+        return self._filed[path]
+
+    def _is_file(self, path: bytes, event: Event) -> bool:
+        """Return whether an event made a file. Old records of copies do not say it."""
+        kind = event.kind if event.kind or event.source is None else self.kind(path, event.rev)
+        return kind == "file" and event.action != "delete"
+
+    def special(self) -> set[bytes]:
+        """The paths of records, and of what has some in it, with the name of a trunk or of a folder of branches or
+        tags."""
+        found = {top for top in self._names if is_special(top)}
+        return found.union(joined(top, name) for top, names in self._names.items() for name in names & SPECIAL)
+
     def _sources(self, path: bytes, rev: int | None) -> Iterator[Place]:
         """Yield the copy sources of a path, up to a revision if one is given."""
         for top in tops_of(path):
@@ -248,97 +260,45 @@ class Tree:
         return sorted(found, key=lambda each: each[1].number)
 
     @functools.cached_property
-    def _copies_of(self) -> dict[Place, list[Place]]:
-        """Return where each place was copied to, and in which revisions."""
-        found: dict[Place, list[Place]] = {}
+    def _copied_next(self) -> dict[Place, list[bytes]]:
+        """Return where the revision after it copied each place to."""
+        found: dict[Place, list[bytes]] = {}
         for path, event in self.copies:
             assert event.source is not None
-            found.setdefault(event.source, []).append((path, event.rev))
+            if event.rev == event.source[1] + 1:
+                found.setdefault(event.source, []).append(path)
         return found
 
-    def moved_to(self, life: Life) -> bytes | None:
-        """Return where a life that ended goes on as a copy of its last revision, if it does."""
-        end = life.last + 1
+    def moves(self, life: Life, head: int) -> Iterator[Life]:
+        """Yield the lives that continue one that ended."""
         for top in tops_of(life.path):
-            for path, rev in self._copies_of.get((top, life.last), ()):
-                place = joined(path, rest_below(life.path, top))
-                if rev == end and self.exists(place, end):
-                    return place
-        return None
+            for path in self._copied_next.get((top, life.last), ()):
+                found = self.life(joined(path, rest_below(life.path, top)), life.last + 1, head)
+                if found is not None and found.continues(life):
+                    yield found
+
+    def moved_to(self, life: Life, head: int) -> Life | None:
+        """Return the first life that continues one."""
+        return next(self.moves(life, head), None)
+
+    def moved_from(self, life: Life, head: int) -> Life | None:
+        """Return the life that one continues, if it does."""
+        found = None if life.source is None else self.life(*life.source, head)
+        return found if found is not None and life.continues(found) else None
 
     @functools.cached_property
-    def branches(self) -> list[bytes]:
-        """The paths of the trunks, the branches and the tags, and of what was copied from one of them as a whole to a
-        place that is in none of them. A directory of branches is none itself."""
-        found = dict.fromkeys(self._named())
-        for path, event in self.copies:
-            assert event.source is not None
-            if event.source[0] in found and not any(
-                top in found and not self._may_be_folder(top) for top in tops_of(path)
-            ):
-                found[path] = None
-        kept = {path for path in found if not self._is_in_copy(path, found)}
-        folders = tops_above(kept)
-        return [path for path in found if path in kept and not (path in folders and self._may_be_folder(path))]
-
-    def _named(self) -> list[bytes]:
-        """The paths that ever were and are trunks, branches or tags by their names."""
-        found: dict[bytes, None] = {}
-        for path in self._special():
-            if projects.is_named(path):
-                found[path] = None
-            elif not projects.is_in_named(path):
-                found.update((joined(path, name), None) for name in sorted(self.names(path)))
-        return sorted(found, key=components)
-
-    def _special(self) -> list[bytes]:
-        """The paths that ever were and are a trunk or a folder of branches or tags by their last component: those of
-        records, or of what is in a folder by a record, and those that came with a copy of what they are in."""
-        found = {top for path in self._events for top in (path, parent_of(path)) if projects.is_special(top)}
-        rising = sorted(found)
-        count = 0
-        for path, event in self.copies:
-            if projects.is_in_named(path):
-                continue
-            for new in [*self._special_below(rising, path, event)]:
-                if new not in found and self.exists(new, event.rev):
-                    found.add(new)
-                    bisect.insort(rising, new)
-                    count += 1
-                    if count > MOST_COPIED:
-                        raise Failed(f"there are more than {MOST_COPIED} folders of branches and tags", 1)
-        return rising
-
-    def _special_below(self, rising: list[bytes], path: bytes, event: Event) -> Iterator[bytes]:
-        """Yield the places to which a copy may have put such paths. The copy source may have come with copies
-        itself."""
-        place = event.source
-        while place is not None:
-            source = place[0]
-            front = source if source.endswith(b"/") else source + b"/"
-            for each in rising[bisect.bisect_left(rising, front) : bisect.bisect_left(rising, front[:-1] + b"0")]:
-                yield joined(path, rest_below(each, source))
-            # Of a copy that is in no branch they are known.
-            place = self._step(*place)[1] if projects.is_in_named(source) else None
-
-    def _is_in_copy(self, path: bytes, branches: dict[bytes, None]) -> bool:
-        """Return whether a path is in a branch that is none by its name."""
-        _, *above = tops_of(path)
-        return any(top in branches and not projects.is_named(top) for top in above)
-
-    def _may_be_folder(self, path: bytes) -> bool:
-        """Return whether a path was never a trunk or a copy."""
-        is_trunk = projects.is_named(path) and projects.kind_of(path) == projects.TRUNK
-        return not is_trunk and not any(event.source is not None for event in self._events.get(path, ()))
+    def branches(self) -> dict[bytes, str]:
+        """The trunks, the branches and the tags, with what each is."""
+        return BranchPaths(self).kinds()
 
     @functools.cached_property
     def _folders(self) -> set[bytes]:
-        """The paths that branches are below."""
-        return tops_above(self.branches)
+        """The paths that branches were below."""
+        return tops_above(path for path in self.branches if any(self.lives(path, 0)))
 
-    def is_folder(self, path: bytes) -> bool:
-        """Return whether a path is a directory of branches, and none itself."""
-        return self._may_be_folder(path) and path in self._folders
+    def branch_kind(self, path: bytes) -> str | None:
+        """Return whether a path is a trunk, a branch, a tag or a folder of these, if it is any."""
+        return self.branches.get(path) or (FOLDER if path in self._folders else None)
 
     def matching(self, pattern: bytes) -> list[bytes]:
         """The paths that ever were and match a pattern, component by component. At its end `**` stands for the branches

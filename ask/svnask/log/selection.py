@@ -63,8 +63,8 @@ def how_it_ended(history: OpenHistory, path: bytes, rev: int) -> Iterator[str]:
     )
     if life is None:
         return
-    moved_to = tree.moved_to(life)
-    how = "deleted" if moved_to is None else f"renamed to '{decoded(moved_to)}'"
+    moved_to = tree.moved_to(life, history.head)
+    how = "deleted" if moved_to is None else f"renamed to '{decoded(moved_to.path)}'"
     last = Target(path, life.last)
     yield f"svnask: it was {how} in r{life.last + 1}; 'heirs {decoded(path)}@{last.rev}' lists all that comes from it"
 

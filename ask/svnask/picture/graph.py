@@ -10,7 +10,7 @@ from __future__ import annotations
 
 import bisect
 import itertools
-from collections.abc import Iterable, Iterator, Sequence
+from collections.abc import Iterable, Iterator, Mapping, Sequence
 from typing import NamedTuple
 
 from svnask.branches import questions as branches
@@ -24,7 +24,7 @@ from svnask.merges.gains import Gain, LifeQuery
 from svnask.merges.recorded import MergeinfoAlone
 from svnask.merges.value_changes import Differences
 from svnask.paths import tops_of
-from svnask.projects import TAG, TRUNK, kind_of
+from svnask.projects import BRANCH, TAG, TRUNK
 
 MOST_OTHERS, MOST_COLUMNS = 400, 500
 # The fewest parts of the time.
@@ -155,11 +155,10 @@ def drawable(history: OpenHistory, patterns: Sequence[bytes], view: View = View(
     known = list(dict.fromkeys([*lives, *parts.wholes]))
     answers = history.ask(branches.logs_of(known) + [query for _, query in asked])
     operative = branches.operative(known, answers)
+    # What is named by a pattern and is none of these is drawn as a branch.
+    kinds = {life: history.tree.branches.get(life.path, BRANCH) for life in lives}
     chained = ordered_lanes(
-        [
-            Lane(chain, kind_of(chain[0].path), [rev for life in chain for rev in operative[life]])
-            for chain in chains(lives)
-        ]
+        [Lane(chain, kinds[chain[0]], [rev for life in chain for rev in operative[life]]) for chain in chains(kinds)]
     )
     gains = [
         gain for gain in parts.without_repeated(merges.gains_of(operative, asked, answers)) if gain.rev >= view.since
@@ -208,13 +207,13 @@ def copies_of(lanes: list[Lane], numbers: dict[Life, int], since: int) -> Iterat
             yield LaneCopy(life, number, finder.lane(life, numbers))
 
 
-def chains(lives: Iterable[Life]) -> list[list[Life]]:
+def chains(kinds: Mapping[Life, str]) -> list[list[Life]]:
     """Lives that go on in one lane: each is the one before it, moved to another place of the same kind."""
     found: list[list[Life]] = []
     ends: dict[tuple[bytes, int], list[Life]] = {}
-    for life in sorted(lives, key=lambda life: life.first):
+    for life in sorted(kinds, key=lambda life: life.first):
         chain = ends.get(life.source) if life.source is not None else None
-        if chain is not None and life.continues(chain[-1]) and kind_of(life.path) == kind_of(chain[-1].path):
+        if chain is not None and life.continues(chain[-1]) and kinds[life] == kinds[chain[-1]]:
             del ends[(chain[-1].path, chain[-1].last)]
         else:
             chain = []

@@ -28,7 +28,6 @@ from svnask.texts import decoded
 OF_DISTANCE = (
     "how many revisions each branch has that the trunk of its project, or TARGET, lacks, and the other way round"
 )
-FOLDER = "folder"
 
 
 class ShownLife(NamedTuple):
@@ -36,15 +35,6 @@ class ShownLife(NamedTuple):
 
     listed: branches.Listed
     distance: Distance | None
-
-    @property
-    def kind(self) -> str | None:
-        """The kind of what it is by its path, if that has the name of one or was copied from one."""
-        life = self.listed.life
-        if self.listed.is_folder:
-            return FOLDER
-        is_one = projects.is_named(life.path) or (life.source is not None and not projects.is_in_named(life.path))
-        return projects.kind_of(life.path) if is_one else None
 
     def end(self) -> bytes:
         life, moved_to = self.listed.life, self.listed.moved_to
@@ -56,7 +46,7 @@ class ShownLife(NamedTuple):
         life = self.listed.life
         origin = (b"moved " if self.listed.is_moved else b"") + origin_of(life)
         found = [life.path, b"r%d-r%d" % (life.first, life.last), origin, b"changed in r%d" % self.listed.last_change]
-        return [*found, self.end(), (self.kind or "-").encode("ascii")]
+        return [*found, self.end(), (self.listed.kind or "-").encode("ascii")]
 
 
 def origin_of(life: Life) -> bytes:
@@ -97,7 +87,7 @@ class BranchesVerb(Verb):
             each = row.listed
             found = dict(object_of_life(each.life), last_change=each.last_change, is_moved=each.is_moved)
             moved_to = None if each.moved_to is None else decoded(each.moved_to.path)
-            found.update(moved_to=moved_to, is_folder=each.is_folder, kind=row.kind)
+            found.update(moved_to=moved_to, is_folder=each.is_folder, kind=each.kind)
             if given.ahead_behind is not None:
                 ahead, behind = row.distance or (None, None)
                 found.update(ahead=ahead, behind=behind)
@@ -114,7 +104,7 @@ def distances(history: OpenHistory, listed: Sequence[branches.Listed], word: str
     said: set[str] = set()
     for each in listed:
         life = each.life
-        if not life.is_alive or each.is_folder or (into is None and projects.kind_of(life.path) != projects.BRANCH):
+        if not life.is_alive or each.is_folder or (into is None and each.kind in (projects.TRUNK, projects.TAG)):
             continue
         trunk = None if into is not None else branches.trunk_of_life(history, life)
         target = into if trunk is None else Target(trunk, history.head)

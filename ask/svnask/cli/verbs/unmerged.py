@@ -20,14 +20,19 @@ from svnask.history.targets import target_of
 from svnask.texts import decoded
 
 
+OF_PATTERN = "what is merged from: 'unmerged branches/1.4' lists what its trunk lacks of branches/1.4. It is a path"
+OF_INTO = (
+    "what is merged into, in place of the trunk of each branch's own project: 'unmerged trunk --into branches/1.4' lists "
+    "what branches/1.4 lacks of the trunk. Without a PATTERN its own trunk is asked about, too, if it is no trunk"
+)
+
+
 class UnmergedVerb(Verb):
     columns = ("path", "revision", "partial", "recorded", "author", "date", "message")
 
     def arguments(self, parser: ArgumentParser) -> None:
-        add_patterns(parser, "all branches")
-        parser.add_argument(
-            "--into", metavar="TARGET[@PEG]", help="the target; the trunk of the branch's project if none is given"
-        )
+        add_patterns(parser, "all branches", OF_PATTERN)
+        parser.add_argument("--into", metavar="TARGET[@PEG]", help=OF_INTO)
         add_log(parser)
 
     def compared(self, history: OpenHistory, given: Namespace) -> Iterator[branches.Compared]:
