@@ -75,6 +75,25 @@ class Lines(base.Case):
         ]
         self.assertEqual(marked, [rev for rev, how in lines.items() if how == "recorded"])
 
+    def test_a_tag_that_is_not_what_it_was(self) -> None:
+        """What happened to a tag up to its peg revision is said."""
+        dump = dump_of(
+            [*map(added, (b"trunk", b"tags")), added(b"trunk/f", FILE)],
+            [copied(b"tags/1", b"trunk", 1)],
+            [changed(b"tags/1/f", text=b"x")],
+            [deleted(b"tags/1")],
+            [copied(b"tags/1", b"trunk", 4), changed(b"tags/1/f", text=b"y")],
+        )
+        made = self.made("dump", dump)
+        rows = (
+            ("tags/1@2", ""),
+            ("tags/1@3", "svnask: the tag '/tags/1' was changed in r3\n"),
+            ("tags/1", "svnask: the tag '/tags/1' was made again in r5\nsvnask: the tag '/tags/1' was changed in r5\n"),
+        )
+        for target, said in rows:
+            for words in (("trunk", target), (target, "trunk")):
+                self.assertEqual(base.called(made, "new", *words).said, said, words)
+
     def test_a_revision_without_a_message(self) -> None:
         nodes = ([added(b"trunk"), added(b"empty")], [added(b"trunk/f", FILE)])
         revisions = [Revision(rev, each, base.named(rev, "")) for rev, each in enumerate(nodes, 1)]

@@ -3,7 +3,6 @@ what is none, by merges from there, and where mergeinfo lost what the branch was
 from __future__ import annotations
 
 import functools
-import re
 from collections.abc import Collection, Iterator, Mapping
 from typing import NamedTuple
 
@@ -12,15 +11,11 @@ from svnask.branches.questions import Holder, holders_of_all
 from svnask.engine.queries import Answer, Answers, LocationSegments, Log, Mergeinfo, Query, is_askable
 from svnask.history.lives import Life
 from svnask.history.open_history import OpenHistory
-from svnask.history.targets import Target
+from svnask.history.targets import Target, pattern_of_path
 from svnask.log import selection as log
 from svnask.masks import members_of
 from svnask.paths import Place
 from svnask.revisions import Revisions
-
-# What stands for characters in a pattern.
-SPECIAL = re.compile(rb"([*?\[])")
-
 
 class Chain(NamedTuple):
     """The places that a branch was copied from, one after the other, and whether all of them are branches as wholes."""
@@ -95,8 +90,7 @@ class Others:
 
     def _held(self, life: Life, revs: list[int]) -> Iterator[tuple[int, Holder]]:
         if revs:
-            pattern = SPECIAL.sub(rb"[\1]", life.path)
-            for each in holders_of_all(self._history, [pattern], revs):
+            for each in holders_of_all(self._history, [pattern_of_path(life.path)], revs):
                 yield each.rev, each.holder
 
 

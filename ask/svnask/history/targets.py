@@ -12,6 +12,8 @@ from svnask.sources.access import IS_URL
 from svnask.texts import encoded
 
 NUMBER = re.compile(r"[0-9]+\Z")
+# What stands for characters in a pattern.
+SPECIAL = re.compile(rb"([*?\[])")
 # A word of `-c`: a minus for the way back, and one number or two.
 CHANGE = re.compile(r"(-(?=r*\+?[0-9])|r+-(?=[0-9]))?r*\+?([0-9]+)(?:(-)r*\+?([0-9]*))?\Z")
 CHANGES = re.compile(r"r*[0-9]+(?:-r*[0-9]+)?(?:,r*[0-9]+(?:-r*[0-9]+)?)*\Z")
@@ -55,6 +57,11 @@ def pattern_of(history: OpenHistory, text: str) -> bytes:
     source begins."""
     pattern = path_of(text)
     return pattern if text.startswith(("/", "^")) else path_in(history.source.path, pattern)
+
+
+def pattern_of_path(path: bytes) -> bytes:
+    """Return a pattern that one path alone matches."""
+    return SPECIAL.sub(rb"[\1]", path)
 
 
 def path_in(top: bytes, path: bytes) -> bytes:

@@ -5,11 +5,12 @@ import re
 from argparse import ArgumentParser, ArgumentTypeError, Namespace
 from collections.abc import Iterable, Iterator
 
+from svnask import projects
 from svnask.asking.verb import Object, Verb, add_log, fields_line, object_of_revision
 from svnask.branches.gained import Gained, gained
-from svnask.branches.questions import RECORDED
+from svnask.branches.questions import RECORDED, touched
 from svnask.history.open_history import OpenHistory
-from svnask.history.targets import target_of
+from svnask.history.targets import Target, pattern_of_path, target_of
 from svnask.log import selection as log
 from svnask.log.forms import Wanted, printed_log
 from svnask.log.plain import LINE_END, PlainForm, about, author_of
@@ -56,7 +57,11 @@ class NewVerb(Verb):
         return [*self.columns, *["issues"] * (given.issue is not None)]
 
     def gained(self, history: OpenHistory, given: Namespace) -> list[Gained]:
-        return gained(history, target_of(history, given.before), target_of(history, given.after), given.all)
+        before, after = target_of(history, given.before), target_of(history, given.after)
+        found = gained(history, before, after, given.all)
+        for target in (before, after):
+            note_events(history, target)
+        return found
 
     def text(self, history: OpenHistory, given: Namespace) -> Iterator[bytes]:
         found = self.gained(history, given)
@@ -91,6 +96,16 @@ class NewVerb(Verb):
     def rows(self, history: OpenHistory, given: Namespace) -> Iterator[Object]:
         for each in self.objects(history, given):
             yield {**each, "issues": " ".join(each.get("issues", ()))}
+
+
+def note_events(history: OpenHistory, target: Target) -> None:
+    """Give notice of what happened to a tag since it was made: it is not what it was released as."""
+    if history.tree.branch_kind(target.path) != projects.TAG:
+        return
+    for tag in touched(history, [pattern_of_path(target.path)]):
+        for event in tag.events if tag.life.path == target.path and tag.life.has(target.rev) else ():
+            if event.rev <= target.rev:
+                history.notice(f"the tag '{decoded(target.path)}' was {event.what} in r{event.rev}")
 
 
 def marks_of(each: Gained) -> list[bytes]:
