@@ -94,6 +94,19 @@ class Askers(base.Case):
             self.rules.write_text(ALL)
             self.check("bob", url, "log", "-v")
 
+    def test_what_was_shown_is_removed_when_it_is_hidden(self) -> None:
+        """It is noticed where one of the compared revisions shows it."""
+        for rules in (HIDDEN, "[/]\nalice = rw\n[/trunk]\nbob = r\n", "[/]\nalice = rw\nbob = r\n[/trunk/b]\nbob =\n"):
+            self.rules.write_text(ALL)
+            with grown.svnserve(self.parent, "none", self.rules) as server:
+                url = f"{server}/repository"
+                self.check("bob", url, "log", "-v")
+                self.rules.write_text(rules)
+                if "b]" in rules or rules == HIDDEN:
+                    self.check("bob", url, "log", "-v")
+                else:
+                    self.check("bob", f"{url}/trunk", "log", "-q")
+
     def test_so_are_more_hidden_revisions_than_are_named_one_by_one(self) -> None:
         changes = [[changed(b"secret", section({b"x": b"%d" % number}))] for number in range(repositories.MOST_NAMED)]
         repository = self.parent / "long"

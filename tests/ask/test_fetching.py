@@ -284,12 +284,15 @@ class Log(Case):
         for words in (["record", "1"], ["byte", "5"]):
             self.check_unanswered(2, "are for a dump", self.made_of, *words)
 
-    def test_two_runs_at_once_ask_for_one_log(self) -> None:
-        line = f'case "$*" in *" -v "*) echo >> {self.folder}/asked; sleep 1 ;; esac'
-        with grown.instead_of(self.folder, "log", line):
+    def test_two_runs_at_once_ask_for_values_once(self) -> None:
+        asked = self.folder / "asked"
+        with grown.instead_of(self.folder, "propget", f"echo >> {asked}; sleep 1"):
+            base.called(self.made_of, "info", "--no-cache")
+            once = asked.read_text()
+            asked.unlink()
             runs = [subprocess.Popen(base.command(self.made_of, "update")) for _ in range(2)]
             self.assertEqual([run.wait() for run in runs], [0, 0])
-        self.assertEqual((self.folder / "asked").read_text(), "\n")
+        self.assertEqual(asked.read_text(), once)
 
     def test_a_property_that_is_set_to_the_value_that_it_has(self) -> None:
         for source in (str(self.made_of), self.made_of.as_uri()):

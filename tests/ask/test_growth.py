@@ -7,15 +7,17 @@ import signal
 import subprocess
 import sys
 from collections.abc import Callable
+from contextlib import AbstractContextManager
 from unittest import mock
 
-from dev.dumps import Dump, Properties, Revision
+from dev import dumps
+from dev.dumps import FILE, Dump, Properties, Revision, added
 from dev.running import run
 from dev.tree import ROOT
 from svnask import History
 from svnask.copy.strip import Stripper
 from svnask.copy.writer import CopyWriter
-from svnask.sources import entries
+from svnask.sources import comparing, entries
 from svnask.sources import opening as sources
 from svnask.sources import repository as repository_source
 from tests.ask import base, grown
@@ -214,6 +216,97 @@ class Another(Case):
         change(made)
         made.grow(2)
         self.assertEqual(self.asked(made.folder, "log", "-v"), grown.svn("svn", "log", "-v", made.url).output)
+
+    def edited(self, count: int, path: bytes = b"trunk/key", rev: int = 2, message: str = "message") -> bytes:
+        """A dump of so many revisions, of which one adds a file that another dump has under another name, or has another
+        message."""
+        nodes = [[added(b"trunk")]] + [[dumps.changed(b"trunk")]] * (count - 1)
+        nodes[rev - 1] = [*nodes[rev - 1], added(path, FILE)] if rev > 1 else nodes[0]
+        texts = [message if number == rev else "message" for number in range(1, count + 1)]
+        revisions = [Revision(at, each, base.named(at, text)) for at, (each, text) in enumerate(zip(nodes, texts), 1)]
+        return bytes(Dump([Revision(0), *revisions], uuid=b"79af214d-18d1-5a5f-987b-d4936a765bdc"))
+
+    def test_a_history_that_was_edited(self) -> None:
+        """The repository has the same identity, and as many revisions with the same dates."""
+        for number, (count, rev) in enumerate(((2, 2), (6, 2), (6, 5))):
+            made = grown.Grown(self.folder / f"edited{number}", self.edited(count, rev=rev), 99)
+            self.check_read_anew(made, self.replaced(self.edited(count, b"trunk/kez", rev), 99))
+
+    def drawing(self, rev: int) -> AbstractContextManager[object]:
+        """Have this revision be the first one of those that are drawn."""
+        return mock.patch.object(os, "urandom", lambda count: (rev - 1).to_bytes(count, "big"))
+
+    def test_a_long_history_that_was_edited(self) -> None:
+        """It is noticed when the edited revision is drawn, or all are compared."""
+        before, after = self.edited(40), self.edited(40, b"trunk/kez")
+        made = grown.Grown(self.folder / "edited", before, 99)
+        for source in made.sources:
+            self.asked(source, "info")
+        self.replaced(after, 99)(made)
+        folder, url = made.sources
+        for source, words in ((folder, ["info"]), (url, ["update", "--properties"])):
+            with self.drawing(20):
+                self.assertIn(b"/trunk/key", self.asked(source, "log", "-v", "-r2"))
+            with self.drawing(2 if words == ["info"] else 20):
+                self.asked(source, *words)
+            with self.drawing(20):
+                self.assertEqual(
+                    self.asked(source, "log", "-v"), grown.svn("svn", "log", "-v", made.url).output, source
+                )
+
+    def test_edited_messages(self) -> None:
+        """Where nothing else was edited, properties alone are read anew."""
+        made = grown.Grown(self.folder / "edited", self.edited(40), 99)
+        for source in made.sources:
+            self.asked(source, "info")
+        self.replaced(self.edited(40, message="another"), 99)(made)
+        made.commit("later")
+        with mock.patch.object(repository_source.SubversionSource, "first", side_effect=AssertionError()):
+            for source in made.sources:
+                with self.drawing(2):
+                    self.asked(source, "info")
+                self.assertEqual(self.asked(source, "log"), grown.svn("svn", "log", made.url).output)
+
+    def test_properties_may_be_read_again_and_again(self) -> None:
+        made = grown.Grown(self.folder / "edited", self.edited(9), 99)
+        for source in made.sources:
+            wanted = self.whole(source)
+            for _ in range(3):
+                self.asked(source, "update", "--properties")
+            self.assertEqual(self.whole(source), wanted)
+            with self.history(made.folder) as history:
+                self.assertEqual([record.rev for record in history.records()], [1, 2])
+
+    def test_what_is_the_same_is_known_again(self) -> None:
+        whole = mock.patch.multiple(comparing, DRAWN=99999, MOST=1 << 40)
+        anew = mock.patch.object(repository_source.SubversionSource, "grown", side_effect=AssertionError())
+        for name in base.names():
+            made = self.repository(name, 9999, name)
+            for source in made.sources:
+                self.asked(source, "update")
+                with whole, anew:
+                    self.asked(source, "update")
+
+    def test_large_revisions_are_not_compared(self) -> None:
+        made = grown.Grown(self.folder / "large", self.edited(4, rev=4), 99)
+        with mock.patch.object(comparing, "MOST", 1):
+            self.check_read_anew(made, lambda changed: changed)
+            self.replaced(self.edited(4, b"trunk/kez", rev=4), 99)(made)
+            self.assertIn(b"/trunk/key", self.asked(made.folder, "log", "-v"))
+        self.assertIn(b"/trunk/kez", self.asked(made.folder, "log", "-v"))
+
+    def test_nothing_new_takes_two_calls(self) -> None:
+        made = self.repository("merges", 99)
+        calls = self.folder / "calls"
+        (self.folder / "programs").mkdir()
+        path = os.environ["PATH"]
+        self.script("programs/svn", f'echo "$1" >> {calls}', f'PATH={path} exec svn "$@"')
+        for source in made.sources:
+            self.asked(source, "info")
+            with mock.patch.dict(os.environ, PATH=f"{self.folder}/programs:{path}"):
+                self.asked(source, "info")
+            self.assertEqual(calls.read_text(), "info\nlog\n")
+            calls.unlink()
 
     def test_a_dump_that_was_written_anew(self) -> None:
         made = self.repository()
@@ -414,7 +507,8 @@ class NewProperties(Case):
         dump = self.made("now.dump", grown.svn("svnadmin", "dump", "-q", made.folder).output)
         expected = self.asked(dump, "log", "-r0:HEAD", "--json")
         for source in made.sources:
-            self.assertNotEqual(self.asked(source, "log", "-r0:HEAD", "--json"), expected)
+            with mock.patch.object(comparing, "drawn_range", return_value=None):
+                self.assertNotEqual(self.asked(source, "log", "-r0:HEAD", "--json"), expected)
             self.assertEqual(self.asked(source, "update", "--properties"), b"")
             self.assertEqual(self.asked(source, "log", "-r0:HEAD", "--json"), expected)
             self.assertEqual(self.asked(source, "log", "-v"), self.asked(dump, "log", "-v"))

@@ -221,7 +221,8 @@ class Store:
     def with_properties(self, rev: int, section: bytes) -> bytes:
         """The bytes of a revision with other properties."""
         head = b"Revision-number: %d\nAt: %s\n" % (rev, self._head(rev)["at"])
-        return head + (body_of(section) if section else b"\n") + self.blocks_of(rev)
+        # A newline that ends a section is no part of a record.
+        return head + (body_of(section) if section else b"\n") + self.blocks_of(rev).removeprefix(b"\n")
 
     def _read_head(self, rev: int) -> re.Match[bytes]:
         """The block of a revision."""

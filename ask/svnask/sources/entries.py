@@ -11,13 +11,13 @@ import fcntl
 import hashlib
 import os
 import time
-from collections.abc import Callable, Iterator
+from collections.abc import Callable, Iterable, Iterator
 from typing import BinaryIO, TypeVar
 
 from svnask import files
 from svnask.copy.index import Front, Index, Kept, front_of, index_of
 from svnask.copy.store import Store
-from svnask.errors import Damaged
+from svnask.errors import Damaged, Failed
 from svnask.sources import cache
 
 INDEX = "index"
@@ -163,8 +163,32 @@ class Entry:
         store.close()
         return made
 
+    def reworded(self, store: Store, sections: Iterable[bytes]) -> Store:
+        """The same copy with other property sections of revisions, from the first one on."""
+        with self.first_file() as (file, kept):
+            index = rewritten(store, sections, file)
+        return self.commit(index.named(kept._replace(state=store.index.kept.state)))
+
     def forget(self) -> None:
         files.remove(self.folder)
+
+
+def rewritten(kept: Store, sections: Iterable[bytes], file: BinaryIO) -> Index:
+    """Write a copy with other property sections of revisions."""
+    index, before = kept.index.clone(), kept.index.revisions
+    index.revisions, index.undated, index.sums, index.length = [], [], [0], 0
+
+    def write(piece: bytes) -> None:
+        index.add(piece)
+        file.write(piece)
+
+    write(kept.between(0, before[0]))
+    for rev, section in enumerate(sections):
+        index.begin_revision(section)
+        write(kept.with_properties(rev, section))
+    if len(index.revisions) != len(before):
+        raise Failed(f"svn printed no log of r{len(index.revisions)}")
+    return index
 
 
 T = TypeVar("T")

@@ -106,7 +106,7 @@ def logged_path(element: xml.Element) -> LoggedPath:
 
 def logged_revisions(svn: Subversion, root: str, first: int, last: int) -> Generator[LoggedRevision, None, None]:
     """Yield some revisions from 1 on, as a log of all paths has them."""
-    for entry in svn.log(root, first, last, "-v") if first <= last else ():
+    for entry in svn.log(root, [(first, last)]) if first <= last else ():
         rev = int(entry.attrib["revision"])
         paths = in_order(map(logged_path, entry.iterfind("paths/path")))
         if any(not each.kind and each.action in ADDED for each in paths):

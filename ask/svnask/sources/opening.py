@@ -3,20 +3,17 @@ from __future__ import annotations
 
 import os
 import sys
-from collections.abc import Iterable, Iterator
-from contextlib import closing, suppress
-from typing import IO, TYPE_CHECKING, BinaryIO, NamedTuple
+from collections.abc import Iterator
+from contextlib import suppress
+from typing import TYPE_CHECKING, BinaryIO, NamedTuple
 
 from svnask import files
-from svnask.copy.index import Index
-from svnask.copy.store import Store
 from svnask.errors import Failed
 from svnask.lazy import Lazy
 from svnask.sources import cache
 from svnask.sources.access import IS_URL, Access
 from svnask.sources.dump import Dump
 from svnask.sources.entries import read_index
-from svnask.sources.progress import Progress
 from svnask.sources.source import Source
 from svnask.texts import say
 
@@ -65,43 +62,6 @@ def is_working_copy(name: str) -> bool:
             return True
         folder, below = os.path.dirname(folder), folder
     return False
-
-
-def with_properties(source: Source, progress: Progress) -> None:
-    """Renew the properties of all revisions in the copy of a repository."""
-    entry = source.entry()
-    sections = source.new_properties()
-    if entry is None:
-        raise Failed("the cache can't be written")
-    with entry.locked(lambda: progress.waits(source.name)):
-        kept = entry.load()
-        if kept is None:
-            raise Failed("the cache can't be written")
-        with closing(kept), entry.first_file() as (file, named):
-            index = rewritten(kept, sections, file)
-        entry.commit(index.named(named._replace(state=kept.index.kept.state))).close()
-
-
-def rewritten(kept: Store, sections: Iterable[tuple[int, bytes]], file: IO[bytes]) -> Index:
-    """Write a copy with other properties of revisions. Those that are not given stay."""
-    given = iter(sections)
-    following = next(given, None)
-    index, before = kept.index.clone(), kept.index.revisions
-    index.revisions, index.undated, index.sums, index.length = [], [], [0], 0
-
-    def write(piece: bytes) -> None:
-        index.add(piece)
-        file.write(piece)
-
-    write(kept.between(0, before[0]))
-    for rev in range(kept.head + 1):
-        _, section = kept.section(rev)
-        if following is not None and following[0] == rev:
-            section = following[1]
-            following = next(given, None)
-        index.begin_revision(section)
-        write(kept.with_properties(rev, section))
-    return index
 
 
 class StoredSource(NamedTuple):

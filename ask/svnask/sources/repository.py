@@ -2,8 +2,7 @@
 from __future__ import annotations
 
 import os
-import re
-from collections.abc import Iterable, Iterator
+from collections.abc import Iterator
 from contextlib import closing, contextmanager
 from typing import IO
 
@@ -14,13 +13,22 @@ from svnask.copy.store import Store
 from svnask.errors import Error, Failed, Unreached
 from svnask.sources import urls
 from svnask.sources.access import Access, of_asker
+from svnask.sources.comparing import (
+    OTHER,
+    SAME,
+    Difference,
+    Replaced,
+    compared,
+    compared_ranges,
+    has_kept_paths,
+    normal,
+)
 from svnask.sources.entries import Entry
-from svnask.sources.fetching import Fetch
+from svnask.sources.fetching import UNREADABLE, Fetch
 from svnask.sources.progress import Progress
 from svnask.sources.source import Source
-from svnask.sources.subversion import Properties, Repository, Subversion
+from svnask.sources.subversion import Repository, Subversion
 
-LINE_END = re.compile(rb"\r\n?")
 OFFLINE = "--offline answers from what is kept of it"
 
 
@@ -33,9 +41,8 @@ class SubversionSource(Source):
         super().__init__(name)
         self.access, self.svn = access, Subversion(access.words)
         self._now: Repository | None = None
-        self._last: tuple[int, Properties] = (-1, {})
-        # Whether more is shown than before, once that was asked.
-        self._is_more: bool | None = None
+        # What differs from a copy, by its identity and its last revision, once that was asked.
+        self._found: tuple[tuple[Kept, int], Difference] | None = None
 
     @contextmanager
     def advised(self) -> Iterator[None]:
@@ -80,32 +87,54 @@ class SubversionSource(Source):
         return self.root.encode("utf-8", "surrogateescape")
 
     def is_as_kept(self, kept: Store) -> bool:
-        return self.now.youngest == kept.head and self._is_same(kept)
+        return self.now.youngest == kept.head and self._difference(kept) == SAME
 
-    def _is_same(self, kept: Store) -> bool:
-        """Return whether the repository is the one of which there is a copy, and its last revision as it was."""
-        if self.now.uuid != kept.index.uuid or not 0 <= kept.head <= self.now.youngest:
-            return False
-        if self._last[0] != kept.head:
-            self._last = kept.head, self.svn.properties(self.asked, kept.head, has_line_ends=False)
-        if self._shows_more(kept):
-            return False
-        return normal(self._last[1]) == normal(sections.properties_of(kept.section(kept.head)[1]))
+    def _difference(self, kept: Store) -> Difference:
+        """Return what differs between the repository and a copy. Each copy is compared once."""
+        state = kept.index.kept, kept.head
+        if self._found is None or self._found[0] != state:
+            self._found = state, self._compared(kept)
+        return self._found[1]
+
+    def _compared(self, kept: Store) -> Difference:
+        if self.now.uuid != kept.index.uuid or not 0 <= kept.head <= self.now.youngest or self._shows_more(kept):
+            return OTHER
+        # Who may not read the root has no log of it, and a copy of a dump.
+        ranges = compared_ranges(kept) if kept.index.format == 2 else []
+        try:
+            found = compared(self.svn, self.root, kept, ranges)
+        except Unreached as error:
+            if not str(error).startswith(UNREADABLE):
+                raise
+            found, ranges = SAME, []
+        is_last_compared = any(last == kept.head for _, last in ranges)
+        return found if is_last_compared or found == OTHER or self._has_last_properties(kept) else OTHER
+
+    def _has_last_properties(self, kept: Store) -> bool:
+        properties = self.svn.properties(self.asked, kept.head, has_line_ends=False)
+        return normal(properties) == normal(sections.properties_of(kept.section(kept.head)[1]))
 
     def _shows_more(self, kept: Store) -> bool:
         """Return whether a revision has a date that had none. So it is after a user was given rights to what it
         changed."""
-        undated = kept.index.undated
-        if undated and self._is_more is None:
-            self._is_more = self.svn.has_date(self.root, undated)
-        return bool(undated and self._is_more)
+        return bool(kept.index.undated) and self.svn.has_date(self.root, kept.index.undated)
 
     def _fetch(self, index: Index, progress: Progress) -> closing[Fetch]:
         return closing(Fetch(self.svn, self.now, index, progress))
 
     def grown(self, entry: Entry, kept: Store, progress: Progress) -> Store | None:
-        if not self._is_same(kept):
+        found = self._difference(kept)
+        if found.is_other:
             return None
+        if not found.is_reworded:
+            return self._extended(entry, kept, progress)
+        try:
+            with closing(entry.reworded(kept, self._sections(kept))) as renewed:
+                return self._extended(entry, renewed, progress) if renewed.head < self.now.youngest else entry.load()
+        except Replaced:
+            return None
+
+    def _extended(self, entry: Entry, kept: Store, progress: Progress) -> Store | None:
         with self._fetch(kept.index.clone(), progress) as fetch:
             # What svnrdump prints can't be added to what was read of a log.
             return None if fetch.needs_dump and kept.index.format == 2 else extended(entry, kept, fetch)
@@ -126,10 +155,20 @@ class SubversionSource(Source):
             raise fetch.error
         return fetch.index.named(kept)
 
-    def new_properties(self) -> Iterable[tuple[int, bytes]]:
-        """The property section of each revision, as it is now."""
-        for rev, found in self.svn.all_properties(self.root, self.now.youngest):
-            yield rev, sections.section_of(found)
+    def reworded(self, entry: Entry, kept: Store, progress: Progress) -> Store:
+        """The copy with the properties that revisions have now, or a new one if what they changed is not the same."""
+        try:
+            return entry.reworded(kept, self._sections(kept))
+        except Replaced:
+            return self.first(entry, progress)
+
+    def _sections(self, kept: Store) -> Iterator[bytes]:
+        """The property section of each revision as it is now. `Replaced` where one changed something else."""
+        yield sections.section_of(self.svn.properties(self.root, 0))
+        for each in self.svn.log(self.root, [(1, kept.head)]) if kept.head > 0 else ():
+            if not has_kept_paths(each, kept):
+                raise Replaced
+            yield sections.section_of(self.svn.properties_in_log(self.root, each))
 
 
 def extended(entry: Entry, store: Store, fetch: Fetch) -> Store:
@@ -144,11 +183,6 @@ def extended(entry: Entry, store: Store, fetch: Fetch) -> Store:
         store.close()
         raise fetch.error
     return store
-
-
-def normal(properties: Properties) -> Properties:
-    """Return properties as they can be compared: svn may convert line ends, and a log ends a value at a byte zero."""
-    return {name: LINE_END.sub(b"\n", value).partition(b"\0")[0] for name, value in properties.items()}
 
 
 class Folder(SubversionSource):

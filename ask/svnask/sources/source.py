@@ -2,14 +2,13 @@
 from __future__ import annotations
 
 import os
-from collections.abc import Iterable
 from contextlib import ExitStack, closing
 from typing import IO, TYPE_CHECKING
 
 from svnask import files
 from svnask.copy.index import Index, Kept
 from svnask.copy.store import Store
-from svnask.errors import Failed, Usage
+from svnask.errors import Failed
 from svnask.lazy import Lazy
 from svnask.sources import cache
 from svnask.sources.entries import Entry
@@ -49,10 +48,6 @@ class Source:
     def known_by(self) -> str:
         """Return what a server knows it by, which is the path of a file or a folder."""
         return os.path.realpath(self.name)
-
-    def new_properties(self) -> Iterable[tuple[int, bytes]]:
-        """The revisions with the property sections that they have now."""
-        raise Usage("--properties is for a repository: those of a dump do not change")
 
     def path_of_url(self, url: str) -> bytes | None:  # pylint: disable=unused-argument
         """Return the path that a URL has below the root, if it is below that."""

@@ -10,6 +10,7 @@ from typing import NamedTuple
 
 from svnask.errors import Failed, Unreached
 from svnask.paths import joined
+from svnask.revisions import Range
 from svnask.sources.commands import bytes_of, element_of, elements, output_of, property_value, without_peg
 from svnask.sources.urls import ancestors, canonical, target
 
@@ -32,6 +33,14 @@ class Repository(NamedTuple):
     root: str
     uuid: bytes
     youngest: int
+
+
+def printed_properties(entry: xml.Element) -> Properties:
+    """Return the properties of a revision in a log, as far as svn can print them."""
+    texts = {name: entry.findtext(tag) for tag, name in NAMED.items()}
+    found = {name: bytes_of(text) for name, text in texts.items() if text is not None}
+    found.update((bytes_of(each.attrib["name"]), property_value(each)) for each in entry.iterfind("revprops/*"))
+    return found
 
 
 class Subversion(NamedTuple):
@@ -116,31 +125,24 @@ class Subversion(NamedTuple):
         with output_of(*words) as stream:
             return next((property_value(each) for each in elements(stream, "property")), b"")
 
-    def log(self, root: str, first: int, last: int, *options: str) -> Iterator[xml.Element]:
-        """Yield what the log of all paths has of some revisions from 1 on, with all properties."""
-        words = ("svn", "log", "--xml", "--with-all-revprops", "-r", f"{first}:{last}", *options)
-        with output_of(*words, *self.words, without_peg(root)) as stream:
+    def log(self, root: str, ranges: Sequence[Range]) -> Iterator[xml.Element]:
+        """Yield what the log of all paths has of some revisions from 1 on, with changed paths and all properties."""
+        words = [word for first, last in ranges for word in ("-r", f"{first}:{last}")]
+        # With the revision in which to look svn need not ask for the youngest one.
+        place = f"{root}@{max(last for _, last in ranges)}"
+        with output_of("svn", "log", "--xml", "-v", "--with-all-revprops", *words, *self.words, place) as stream:
             yield from elements(stream, "logentry")
 
     def properties_in_log(self, root: str, entry: xml.Element) -> Properties:
         """Return the properties of a revision in a log. Those that svn could not print are asked for by themselves."""
-        rev = int(entry.attrib["revision"])
-        texts = {name: entry.findtext(tag) for tag, name in NAMED.items()}
-        found = {name: bytes_of(text) for name, text in texts.items() if text is not None}
-        if found and DATE not in found and DATE in self._properties(root, rev):
+        rev, found = int(entry.attrib["revision"]), printed_properties(entry)
+        if not found.keys().isdisjoint(NAMED.values()) and DATE not in found and DATE in self._properties(root, rev):
             # The log leaves an empty date out.
             found[DATE] = b""
-        for name, value in found.items():
-            if ESCAPED.search(value):
+        for name in NAMED.values():
+            if ESCAPED.search(found.get(name, b"")):
                 found[name] = self._property(root, rev, name)
-        found.update((bytes_of(each.attrib["name"]), property_value(each)) for each in entry.iterfind("revprops/*"))
         return found
-
-    def all_properties(self, root: str, last: int) -> Iterator[tuple[int, Properties]]:
-        """Yield the properties of all revisions from 0 on."""
-        yield 0, self.properties(root, 0)
-        for element in self.log(root, 1, last) if last else ():
-            yield int(element.attrib["revision"]), self.properties_in_log(root, element)
 
     def kind(self, root: str, path: bytes, rev: int) -> str:
         """Return whether a path of a revision is a `file` or a `dir`."""
