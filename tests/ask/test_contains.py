@@ -3,10 +3,12 @@ from __future__ import annotations
 
 from pathlib import Path
 
-from dev.dumps import FILE, added, changed, deleted, dump_of, mergeinfo, section
+from dev.dumps import FILE, added, changed, copied, deleted, dump_of, mergeinfo, section
 from model import definitions as plain
 from svnask import History
 from svnask.errors import Denied
+from svnask.history.lives import Tree
+from svnask.projects import FOLDER
 from tests.ask import base
 from tests.ask.drawn_repositories import drawn, synchronized
 from tests.ask.plain_histories import Held, Plain
@@ -25,17 +27,18 @@ class Contains(base.Case):
     def check(self, dump: Path) -> None:
         """Compare the paths at most two deep, today and in an older revision."""
         history, known = self.public_history(dump), Plain(dump.read_bytes())
-        head = len(known.records) - 1
-        self.check_peg(history, known, head // 2, head // 2)
-        self.check_peg(history, known, head, None)
+        head, tree = len(known.records) - 1, self.history(dump).tree
+        self.check_peg(history, known, tree, head // 2, head // 2)
+        self.check_peg(history, known, tree, head, None)
 
-    def check_peg(self, history: History, known: Plain, head: int, peg: int | None) -> None:
+    def check_peg(self, history: History, known: Plain, tree: Tree, head: int, peg: int | None) -> None:
         wanted = {}
         for path in known.history.trees[head]:
             if 1 <= len(path) <= 2:
-                place = plain.Place(path, head)
+                place, printed = plain.Place(path, head), plain.printed(path)
+                is_folder = tree.branch_kind(printed) == FOLDER
                 try:
-                    wanted[plain.printed(path)] = known.held(place), known.below(place)
+                    wanted[printed] = known.held(place), {} if is_folder else known.below(place)
                 except plain.Malformed:
                     continue
         for rev in range(1, head + 1):
@@ -78,6 +81,24 @@ class Contains(base.Case):
         self.assertEqual(self.asked(dump, "contains", "14", "branches/two"), line)
         (found,) = base.objects(dump, "contains", "14", "branches/two")
         self.assertEqual((found["how"], found["below"]), ("merged in part", "/branches/two/dir"))
+
+    def test_one_below_that_was_merged_comes_before_those_recorded(self) -> None:
+        """The branch has r3 in `b` and in `c`, and by records alone in `a` and `d/e`, of which `d/e` has r4, too."""
+        folders = [added(b"trunk/" + name) for name in (b"a", b"b", b"c", b"d", b"d/e")]
+        files = [added(each.path + b"/f", FILE) for each in folders]
+        changes = [changed(each.path, text=b"x") for each in files]
+        values = [(b"a", b"3", False), (b"b", b"3", True), (b"c", b"3", True), (b"d/e", b"4", False)]
+        merges = [
+            [changed(b"branches/b/" + name, mergeinfo(b"/trunk/%s:%s" % (name, rev)))]
+            + [changed(b"branches/b/%s/f" % name, text=b"x")] * is_merged
+            for name, rev, is_merged in values
+        ]
+        first = [added(b"trunk"), added(b"branches"), *folders, *files]
+        edit = [changed(b"trunk/d/e/f", text=b"y")]
+        dump = dump_of(first, [copied(b"branches/b", b"trunk", 1)], changes, edit, *merges)
+        lines = b"r3\tin part, in /branches/b/b\nr4\trecorded, in /branches/b/d/e\n"
+        done = base.called(self.made("dump", dump), "contains", "3", "4", "branches/b", "branches")
+        self.assertEqual(done.output.replace(b"/branches/b\t", b""), lines)
 
     def test_revisions_may_be_named_as_for_a_log(self) -> None:
         dump = base.dump_of("merges")

@@ -14,7 +14,7 @@ from unittest import mock
 
 from dev.dumps import added, changed, copied, deleted, dump_of, mergeinfo
 from dev.tree import DOCS
-from svnask.branches.questions import IN_PART, holders_of_all
+from svnask.branches.questions import IN_PART, MERGED, holders_of_all
 from svnask.export import database
 from svnask.history.open_history import OpenHistory
 from tests.ask import base
@@ -25,8 +25,8 @@ TABLES = (
     "changed_tag finding"
 ).split()
 HOLDERS = """
-SELECT path, 'history' FROM in_history JOIN branch ON id = branch WHERE revision = ?1 AND is_alive UNION
-SELECT path, CASE is_recorded WHEN 1 THEN 'recorded' ELSE 'merged' END FROM in_merge JOIN branch ON id = branch
+SELECT path, 'history', NULL FROM in_history JOIN branch ON id = branch WHERE revision = ?1 AND is_alive UNION
+SELECT path, CASE is_recorded WHEN 1 THEN 'recorded' ELSE 'merged' END, below FROM in_merge JOIN branch ON id = branch
 WHERE in_merge.revision = ?1 AND is_alive
 """
 # What paths have in a revision.
@@ -55,10 +55,12 @@ def below(history: OpenHistory, rev: int) -> Iterator[tuple[bytes, bytes]]:
     return history.explicit.below(b"/", rev)
 
 
-def holders_in(path: Path, rev: int) -> dict[str, str]:
-    """Return which branches and tags have a revision, each with the first way of these in which it does."""
+def holders_in(path: Path, rev: int) -> dict[str, tuple[str, str | None]]:
+    """Return which branches and tags have a revision, each with the first way of these in which it does, and the path
+    below it that has it."""
     found = rows(path, HOLDERS, rev)
-    return {name: each for how in ("recorded", "merged", "history") for name, each in found if each == how}
+    ways = ("recorded", "merged", "history")
+    return {name: (each, below) for how in ways for name, each, below in found if each == how}
 
 
 class Exported(base.Case):
@@ -75,7 +77,7 @@ class Exported(base.Case):
         """Compare which branches and tags have a revision with what `contains` says."""
         for rev in revs:
             wanted = sorted(
-                (each["path"], "merged" if each["how"] == "merged in part" else each["how"])
+                (each["path"], ("merged" if each["how"] == "merged in part" else each["how"], each["below"]))
                 for each in base.objects(dump, "contains", str(rev))
             )
             self.assertEqual(sorted(holders_in(path, rev).items()), wanted, (dump.name, rev))
@@ -168,13 +170,17 @@ class Exported(base.Case):
             with base.opened(dump, is_cached=False) as history:
                 database.export(history, str(path))
                 held = holders_of_all(history, [], range(1, history.head + 1))
-                wanted = {(each.rev, database.text(each.holder.path)): each.holder.how for each in held}
+                wanted = {(each.rev, database.text(each.holder.path)): each.holder for each in held}
                 head = history.head
                 for rev in range(head + 1):
                     values = {(database.text(name), database.text(value)) for name, value in below(history, rev)}
                     self.assertEqual({*rows(path, MERGEINFO, rev)}, values, rev)
             found = {(rev, name): how for rev in range(1, head + 1) for name, how in holders_in(path, rev).items()}
-            self.assertEqual(found, {place: "merged" if how == IN_PART else how for place, how in wanted.items()})
+            expected = {
+                place: (MERGED if how == IN_PART else how, database.text(below))
+                for place, (_, how, below) in wanted.items()
+            }
+            self.assertEqual(found, expected)
             self.assertEqual(rows(path, "PRAGMA foreign_key_check"), [])
 
         self.drawn(300, drawn, check)

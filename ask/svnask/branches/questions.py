@@ -225,7 +225,12 @@ def holders_of_all(
     for place, recorded in zip(gaining, Recorded(history).of(gaining)):
         for rev, namings_of in named[place].items():
             found[rev][place[0]] = Holder(place[0], how_merged(namings_of, recorded, rev))
-    left = {place: {rev for rev in revs if place[0] not in found[rev]} for place in places}
+    left = {
+        place: {rev for rev in revs if place[0] not in found[rev]}
+        for place in places
+        # What the branches in a folder have, the folder has not.
+        if history.tree.branch_kind(place[0]) != projects.FOLDER
+    }
     for rev, holder in holders_below(history, left, revs, copied):
         found[rev][holder.path] = holder
     for rev in revs:

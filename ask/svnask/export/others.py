@@ -17,6 +17,7 @@ from svnask.masks import members_of
 from svnask.paths import Place
 from svnask.revisions import Revisions
 
+
 class Chain(NamedTuple):
     """The places that a branch was copied from, one after the other, and whether all of them are branches as wholes."""
 

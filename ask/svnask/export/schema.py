@@ -89,7 +89,7 @@ SELECT branch.id AS branch, branch_revision.revision
 FROM branch JOIN branch_revision ON branch_revision.branch = branch.id AND branch_revision.revision > branch.first
 WHERE branch.is_alive AND branch.kind = 'branch' AND NOT EXISTS (
     SELECT 1 FROM in_merge JOIN branch AS trunk ON trunk.id = in_merge.branch
-    WHERE in_merge.revision = branch_revision.revision AND trunk.kind = 'trunk' AND trunk.is_alive
+    WHERE in_merge.revision = branch_revision.revision AND below IS NULL AND trunk.kind = 'trunk' AND trunk.is_alive
 ) AND NOT EXISTS (
     SELECT 1 FROM in_history JOIN branch AS trunk ON trunk.id = in_history.branch
     WHERE in_history.revision = branch_revision.revision AND trunk.kind = 'trunk' AND trunk.is_alive
