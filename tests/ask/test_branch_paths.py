@@ -1,7 +1,9 @@
 """Which paths are trunks, branches, tags and folders, beside the trees of all revisions."""
 from __future__ import annotations
 
+import sqlite3
 from collections.abc import Sequence
+from contextlib import closing
 from pathlib import Path
 from typing import Optional, Union
 
@@ -153,6 +155,10 @@ class Kinds(base.Case):
         self.assertEqual(kinds, {life["path"]: each["kind"] for each in lanes for life in each["lives"]})
         lives = [each for each in base.objects(dump, "migration") if each["type"] in KINDS]
         self.assertEqual(kinds, {each["path"]: each["type"] for each in lives})
+        path = self.folder / f"{dump.name}.db"
+        self.asked(dump, "export", path)
+        with closing(sqlite3.connect(path)) as opened:
+            self.assertEqual(kinds, dict(opened.execute("SELECT path, kind FROM branch")))
         for kind, verb in (("tag", "changed-tags"), ("branch", "unmerged")):
             named = {each["path"] for each in base.objects(dump, verb)}
             self.assertLessEqual(named, {path for path in kinds if kinds[path] == kind}, verb)

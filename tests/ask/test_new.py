@@ -90,8 +90,8 @@ class Lines(base.Case):
             ("tags/1@3", "svnask: the tag '/tags/1' was changed in r3\n"),
             ("tags/1", "svnask: the tag '/tags/1' was made again in r5\nsvnask: the tag '/tags/1' was changed in r5\n"),
         )
-        for target, said in rows:
-            for words in (("trunk", target), (target, "trunk")):
+        for tag, said in rows:
+            for words in (("trunk", tag), (tag, "trunk")):
                 self.assertEqual(base.called(made, "new", *words).said, said, words)
 
     def test_a_revision_without_a_message(self) -> None:

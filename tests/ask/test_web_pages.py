@@ -13,8 +13,7 @@ from urllib.parse import parse_qs, unquote
 from svnask.asking.parser import parsed
 from svnask.cli.verbs import web
 from svnask.lazy import Lazy
-from tests.ask import base
-from tests.ask.drawn_repositories import drawn
+from tests.ask import base, drawn_repositories
 
 if TYPE_CHECKING:
     import waitress
@@ -57,6 +56,9 @@ def browser(has_scripts: bool = True) -> Any:
 @unittest.skipIf(LACKING, f"not installed: {', '.join(LACKING)}")
 class Browsed(base.Case):
     """A test of pages in a browser."""
+
+    front: str
+    browser: Any
 
     def serve(self, dump: Path) -> None:
         """Serve the pages of a dump, and start a browser, which ends before the server does."""
@@ -268,5 +270,5 @@ class Crawls(Browsed):
     def test_recorded_and_drawn_repositories(self) -> None:
         for name in ("names", "copies", "projects"):
             self.check_links(base.dump_of(name))
-        self.drawn(5, drawn, self.check_links)
+        self.drawn(5, drawn_repositories.drawn, self.check_links)
         self.assertGreater(self.pages, 150)

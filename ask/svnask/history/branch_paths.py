@@ -12,17 +12,18 @@ if TYPE_CHECKING:
     from svnask.history.lives import Event, Tree
     from svnask.paths import Place
 
-# How many branches, and folders of these, come with copies of what they are in, at most. Some histories double with each
-# copy.
+# How many branches, and folders of these, come with copies of what they are in, at most. Some histories double with
+# each copy.
 MOST_CARRIED = 200000
 
 
 class BranchPaths:
     """The trunks, the branches and the tags, found by all copies, one after the other.
 
-    A path is known by its name, or is whole: a branch was copied there as a whole, or came with a copy, and its name
-    does not say so. What has the name of a branch or a tag is a folder if something whole is in it, unless it or what it
-    was copied from ever had a file directly in it, or was copied from what is no folder of branches and may be none.
+    A path is known by its name, or it is whole: a trunk, a branch or a tag was copied there, itself or with a directory
+    above, and its name does not say so. What has the name of a branch or a tag is a folder if something whole is in it,
+    unless it, or what it was copied from, is no folder: it had a file directly in it, is a trunk, is whole, or is a copy
+    of a project or of what is in a branch.
     """
 
     def __init__(self, tree: Tree) -> None:
@@ -34,7 +35,7 @@ class BranchPaths:
         self._special: set[bytes] = set()
         # What is whole or special at and below each path.
         self._below: dict[bytes, list[bytes]] = {}
-        # What is no folder of branches, what was looked at for that, and what was copied from each of these.
+        # What is no folder, what was looked at to know that, and what was copied from each path.
         self._no_folders: set[bytes] = set()
         self._judged: set[bytes] = set()
         self._copies: dict[bytes, list[bytes]] = {}
@@ -86,7 +87,7 @@ class BranchPaths:
         return path not in self._no_folders
 
     def _judge_no_folder(self, path: bytes) -> None:
-        """Take note that a path is no folder, and nothing that was copied from it."""
+        """Note that a path is no folder, and nothing that was copied from it."""
         left = [path]
         while left:
             each = left.pop()
@@ -95,7 +96,8 @@ class BranchPaths:
                 left += self._copies.get(each, ())
 
     def _may_have_branches(self, path: bytes, rev: int) -> bool:
-        """Return whether a path of a revision is a folder of branches, or may be one. That of a project is none."""
+        """Return whether a path of a revision is a folder of branches, or may be one. The directory of a project is
+        none."""
         if is_named(path) or is_folder(path):
             return is_folder(path) or self._may_be_folder(path)
         return path in self._above and not any(
@@ -104,7 +106,7 @@ class BranchPaths:
         )
 
     def _kind(self, path: bytes) -> str | None:
-        """Return what a path is that is in no branch, if it is one itself."""
+        """Return what a path is, if it is a trunk, a branch or a tag. It is in none."""
         is_one = is_named(path) and not (path in self._above and self._may_be_folder(path))
         return self._whole.get(path, kind_by_name(path) if is_one else None)
 

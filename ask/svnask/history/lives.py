@@ -231,8 +231,8 @@ class Tree:
         return kind == "file" and event.action != "delete"
 
     def special(self) -> set[bytes]:
-        """The paths of records, and of what has some in it, with the name of a trunk or of a folder of branches or
-        tags."""
+        """Return the paths of records, and those directly above them, with the name of a trunk or of a folder of
+        branches or tags."""
         found = {top for top in self._names if is_special(top)}
         return found.union(joined(top, name) for top, names in self._names.items() for name in names & SPECIAL)
 
