@@ -22,6 +22,8 @@ from svnask.texts import decoded
 
 # Of how many lives sets of revisions are kept, which are as long as the history.
 MOST_MASKS = 64
+# How many bytes the sets of revisions have that are kept of values.
+MOST_BYTES = 1 << 26
 
 
 class HeldRevisions(NamedTuple):
@@ -112,7 +114,8 @@ class Holdings:
         self.recorded = Recorded(history)
         self._logs = LifeLogs(history)
         self._lives = cache(lambda path: [*history.tree.lives(path, history.head)])
-        self._named_in = lru_cache(MOST_MASKS)(self._revisions_named)
+        # Many paths have the same value by copies.
+        self._named_in = lru_cache(MOST_BYTES // (history.head // 8 + 1))(self._revisions_named)
 
     def of(self, targets: Sequence[Target]) -> list[HeldRevisions]:
         """Return what each of some targets has."""
