@@ -45,7 +45,7 @@ USUAL = Names(b"trunk trunk/a trunk/a/b trunk/f trunk/a/g b b/one b/two b/one/a 
 # Those that mean something else in a URL, in mergeinfo, in XML or for whoever prints a path.
 ODD = Names(
     b"trunk,trunk/a b,trunk/a b/b@2,trunk/%41f,trunk/a b/<&g,b,b/o:1,b/\xc3\xa9,b/o:1/a b,b/o,t;t,t;t/x*".split(b","),
-    (b" c", b"@", b"d:3-4", b"#f"),
+    (b" c", b"@", b"d:3-4", b"#f", b"e "),
 )
 
 
