@@ -6,6 +6,7 @@ import signal
 import socket
 import subprocess
 import time
+from contextlib import closing
 from functools import partial
 from pathlib import Path
 from unittest import mock
@@ -14,6 +15,7 @@ from dev import running
 from dev.dumps import FILE, Dump, Revision, added
 from svnask import History
 from svnask.errors import Unreached
+from svnask.sources.opening import source_of
 from svnask.sources.subversion import Subversion
 from svnask.sources.urls import canonical, path_below
 from tests.ask import base, grown
@@ -247,6 +249,15 @@ class Hanging(Case):
         self.check_unanswered(2, "argument --timeout: 'soon' is not a number", "--timeout=soon", self.url, "log")
         made = self.repository()
         self.assertEqual(self.asked(made.url, "log", "--timeout", "60"), self.asked(made.url, "log"))
+
+    def test_another_run_may_take_so_long(self) -> None:
+        made = self.repository()
+        with closing(source_of(str(made.folder))) as source:
+            entry = source.entry()
+        assert entry is not None
+        with entry.locked():
+            said = "another run that reads it was not done after 1 seconds, which --timeout gives"
+            self.check_unanswered(1, said, "--timeout", "1", made.folder, "log")
 
 
 class Served(Case):

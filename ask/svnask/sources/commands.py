@@ -38,8 +38,8 @@ REPLACED = re.compile(SIGN + "([0-9a-f]{6})")
 F_SETPIPE_SZ = 1031
 # Since when setpriv has Linux end a command with the thread that began it, and what it prints of its version.
 GUARDED_SINCE, VERSION = (2, 33), re.compile(rb"util-linux (\d+)\.(\d+)")
-# With this option svn asks for a password also where its standard input is no terminal.
-FORCED = "--force-interactive"
+# The terminal of a process, on which svn and ssh ask for a password.
+TERMINAL = "/dev/tty"
 # How many seconds a command has to end.
 ENDING = 0.5
 # How much is read at once, and how much a pipe holds, where it may, so that the command need not wait.
@@ -57,13 +57,22 @@ def guard() -> tuple[str, ...]:
     return (program, "--pdeathsig", "KILL") if has_it else ()
 
 
+def has_terminal() -> bool:
+    """Return whether there is a terminal, wherever the standard input comes from."""
+    try:
+        os.close(os.open(TERMINAL, os.O_RDWR | os.O_NOCTTY))
+    except OSError:
+        return False
+    return True
+
+
 class Command:
-    """A command that runs. It may ask for a password on the terminal, which is also its standard input. Where it may
-    not, it has a group of its own, which ends with it."""
+    """A command that runs. It may ask for a password on the terminal. Where there is none, it has a group of its own,
+    which ends with it."""
 
     def __init__(self, words: Sequence[str], output: int | IO[bytes]) -> None:
         self._name, self._deadline, self._is_late = words[0], deadlines.CURRENT.get(), False
-        self._has_group = not (FORCED in words or os.isatty(0))
+        self._has_group = not has_terminal()
         if shutil.which(self._name) is None:
             raise Failed(f"cannot run {self._name}: {os.strerror(errno.ENOENT)}")
         self._errors = tempfile.TemporaryFile()
@@ -107,7 +116,7 @@ class Command:
         """Return why the command failed, by its status and what it said."""
         status, said = self.process.wait(), self.said()
         if self._is_late and self._deadline is not None:
-            return Unreached(f"{self._name} was not done after {self._deadline.seconds} seconds, which --timeout gives")
+            return Unreached(f"{self._name} was not done {self._deadline.in_words}")
         if status < 0:
             return Failed(f"{self._name} was ended by {name_of_signal(-status)}")
         lines = [found[1] for found in map(ERROR.match, said.splitlines()) if found]

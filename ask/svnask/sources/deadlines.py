@@ -14,6 +14,10 @@ class Deadline(NamedTuple):
     when: float
     seconds: int
 
+    @property
+    def in_words(self) -> str:
+        return f"after {self.seconds} seconds, which --timeout gives"
+
 
 # That of the question that a thread answers.
 CURRENT: ContextVar[Optional[Deadline]] = ContextVar("CURRENT", default=None)

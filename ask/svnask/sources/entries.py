@@ -17,13 +17,31 @@ from typing import BinaryIO, TypeVar
 from svnask import files
 from svnask.copy.index import Front, Index, Kept, front_of, index_of
 from svnask.copy.store import Store
-from svnask.errors import Damaged, Failed
-from svnask.sources import cache
+from svnask.errors import Damaged, Failed, Unreached
+from svnask.sources import cache, deadlines
 
 INDEX = "index"
 # What came later is joined with the first file where it is longer than this, and than half of that.
 LEAST = 1 << 20
 BUFFER = 1 << 20
+# How many seconds pass before it is seen again whether a lock is free.
+PAUSE = 0.05
+
+
+def wait_for_lock(file: BinaryIO) -> None:
+    """Wait until no other run has a lock, as long as the question may take."""
+    deadline = deadlines.CURRENT.get()
+    if deadline is None:
+        fcntl.flock(file, fcntl.LOCK_EX)
+        return
+    while True:
+        try:
+            fcntl.flock(file, fcntl.LOCK_EX | fcntl.LOCK_NB)
+            return
+        except BlockingIOError:
+            if time.monotonic() > deadline.when:
+                raise Unreached(f"another run that reads it was not done {deadline.in_words}") from None
+            time.sleep(PAUSE)
 
 
 class Entry:
@@ -74,7 +92,7 @@ class Entry:
                 fcntl.flock(file, fcntl.LOCK_EX | fcntl.LOCK_NB)
             except BlockingIOError:
                 waits()
-                fcntl.flock(file, fcntl.LOCK_EX)
+                wait_for_lock(file)
             if self._is_lock(file):
                 try:
                     yield
