@@ -116,7 +116,7 @@ class Plain:
         """Return the revisions that the mergeinfo of paths below a path has, each with how, and the first such path."""
         tree, found = self.history.trees[place.revision], dict[int, tuple[str, plain.Path]]()
         paths = [path for path in tree if len(path) > len(place.path) and plain.is_below(path, place.path)]
-        for path in sorted(paths, key=plain.printed):
+        for path in sorted(paths):
             if tree[path].mergeinfo is None:
                 continue
             try:

@@ -16,7 +16,7 @@ from svnask.log import selection as log
 from svnask.mergeinfo.values import Value, value_by_ranges, value_of
 from svnask.merges import show_revs as mergeinfo
 from svnask.merges.recorded import Merged, Recorded
-from svnask.paths import Place, components, is_at_or_below, tops_of
+from svnask.paths import NUL_FOR_SLASH, Place, components, is_at_or_below, tops_of
 from svnask.revisions import in_range
 from svnask.texts import decoded
 
@@ -246,7 +246,9 @@ def holders_below(
     recorded = Recorded(history)
     for (top, head), left in lacking.items():
         found: dict[int, Holder] = {}
-        for path, text in history.explicit.below(top, head) if left else ():
+        values = dict(history.explicit.below(top, head) if left else ())
+        for path in sorted(values, key=NUL_FOR_SLASH):
+            text = values[path]
             gained = left.intersection(named(text)) if path != top else set()
             of_path = recorded.of([(path, head)] * bool(gained))
             for rev in gained:
