@@ -44,7 +44,7 @@ def is_folder(path: plain.Path) -> bool:
 
 
 class PlainKinds:
-    """What each path is, as the page says it, by all paths of all revisions."""
+    """The kinds of all paths, as the page says it, by the trees of all revisions."""
 
     def __init__(self, known: Plain) -> None:
         self.trees = known.history.trees

@@ -233,7 +233,7 @@ class Another(Case):
             self.check_read_anew(made, self.replaced(self.edited(count, b"trunk/kez", rev), 99))
 
     def drawing(self, rev: int) -> AbstractContextManager[object]:
-        """Have this revision be the first one of those that are drawn."""
+        """Draw this revision first."""
         return mock.patch.object(os, "urandom", lambda count: (rev - 1).to_bytes(count, "big"))
 
     def test_a_long_history_that_was_edited(self) -> None:

@@ -140,7 +140,7 @@ class Copies(base.Case):
 
 
 class AheadAndBehind(base.Case):
-    """How far branches are from a target is how many revisions `new` lists, both ways."""
+    """The distances of branches from a target are the numbers of revisions that `new` lists, both ways."""
 
     count = 0
 

@@ -367,7 +367,7 @@ class Web(base.Case):
         opened = self.opened(dump)
         choices = Reader(self.got(opened, "/compare").text).choices
         self.assertEqual(len(choices), len(names) + 1)
-        paths = {base.objects(dump, "segments", page_words.chosen(each))[0]["path"] for each in choices}
+        paths = {base.objects(dump, "segments", page_words.text_of_choice(each))[0]["path"] for each in choices}
         self.assertEqual(paths, {"/trunk", *(f"/branches/{name}" for name in names)})
         compared = [link for link in Reader(self.got(opened, "/").text).links if "/compare?" in link]
         self.assertEqual(len(set(compared)), len(names))

@@ -105,13 +105,13 @@ def write_database(history: OpenHistory, database: sqlite3.Connection, name: str
     known = count_known(history, database, name)
     first = known if is_of_this_version(database) else 0
     if not first:
-        remove(database, TABLES)
-        run(database, TABLES)
+        drop_made(database, TABLES)
+        run_script(database, TABLES)
     fill(history, database, first)
     return Exported(history.head, history.head + 1 - known)
 
 
-def run(database: sqlite3.Connection, script: str) -> None:
+def run_script(database: sqlite3.Connection, script: str) -> None:
     """Run statements. `executescript` would end the transaction."""
     is_strict = sqlite3.sqlite_version_info >= STRICT
     filled = script.format(strict="STRICT" * is_strict, rowless="WITHOUT ROWID" + ", STRICT" * is_strict)
@@ -119,7 +119,7 @@ def run(database: sqlite3.Connection, script: str) -> None:
         database.execute(statement)
 
 
-def remove(database: sqlite3.Connection, script: str) -> None:
+def drop_made(database: sqlite3.Connection, script: str) -> None:
     """Remove the tables and views that a script makes, as far as they are there."""
     kinds = kinds_in(database)
     for name in MADE.findall(script):
@@ -183,8 +183,8 @@ def fill(history: OpenHistory, database: sqlite3.Connection, first: int) -> None
     put(database, "revision", reworded(history, database, first))
     database.execute(INDEX)
     put_values(history, database, first)
-    remove(database, DERIVED)
-    run(database, DERIVED)
+    drop_made(database, DERIVED)
+    run_script(database, DERIVED)
     put(database, "branch", known.branches())
     put(database, "ancestor", known.ancestors())
     put(database, "branch_revision", known.revisions())

@@ -28,7 +28,7 @@ def find(history: OpenHistory, path: bytes, rev: int) -> list[bytes]:
     return [*islice(there, MOST)]
 
 
-def advice(history: OpenHistory, target: Target) -> list[str]:
+def alternatives(history: OpenHistory, target: Target) -> list[str]:
     """Return a line with the paths that may be meant by a target that is not there."""
     # Where names are below the path of the source, another sign says that one begins at the root.
     front = "^" * (history.source.path != b"/")

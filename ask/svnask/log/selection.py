@@ -52,7 +52,9 @@ class Trace(NamedTuple):
 
 def not_found(history: OpenHistory, target: Target, rev: int) -> Denied:
     text = f"File not found: revision {rev}, path '{decoded(target.path)}'"
-    return Denied("E160013", text, [*how_it_ended(history, target.path, rev)] or near_names.advice(history, target))
+    return Denied(
+        "E160013", text, [*how_it_ended(history, target.path, rev)] or near_names.alternatives(history, target)
+    )
 
 
 def how_it_ended(history: OpenHistory, path: bytes, rev: int) -> Iterator[str]:

@@ -40,7 +40,7 @@ def merges_of(graph: Graph) -> Iterator[BranchMerge]:
     copied_from = {copy.lane: copy.source for copy in graph.copies}
     known = cache(lambda number: frozenset(graph.lanes[number].revisions))
     tallies: dict[tuple[int, int], Brought] = {}
-    for merge in joined(graph.merges):
+    for merge in join_merges(graph.merges):
         source, target = graph.lanes[merge.source], graph.lanes[merge.target]
         if (merge.source, merge.target) not in tallies:
             begin = history_begin(source, target, copied_from.get(merge.target) == merge.source)
@@ -54,10 +54,10 @@ def merges_of(graph: Graph) -> Iterator[BranchMerge]:
 def reverse_merges_of(graph: Graph) -> Iterator[BranchMerge]:
     """Yield the merges that took back what was merged before."""
     lost = [each._replace(rev=each.lost, is_record_only=False) for each in graph.merges if each.lost is not None]
-    return (named(graph, each, REVERSE) for each in joined(lost) if not each.is_carried)
+    return (named(graph, each, REVERSE) for each in join_merges(lost) if not each.is_carried)
 
 
-def joined(merges: Iterable[LaneMerge]) -> Iterator[LaneMerge]:
+def join_merges(merges: Iterable[LaneMerge]) -> Iterator[LaneMerge]:
     """Yield the merges of one revision from one path into another as one, whatever was taken back later."""
     found: dict[LaneMerge, list[Sequence[int]]] = {}
     for each in merges:

@@ -22,14 +22,14 @@ class Replaced(Exception):
     """The repository is another one than that of which there is a copy."""
 
 
-class Difference(NamedTuple):
-    """What differs from a copy: its repository is another one, or only properties of revisions were changed."""
+class LogDifference(NamedTuple):
+    """The differences from a copy: its repository is another one, or only properties of revisions were changed."""
 
     is_other: bool
     is_reworded: bool = False
 
 
-SAME, OTHER = Difference(False), Difference(True)
+SAME, OTHER = LogDifference(False), LogDifference(True)
 
 
 def normal(properties: Properties) -> Properties:
@@ -60,7 +60,7 @@ def drawn_range(kept: Store) -> Range | None:
     return (first, end - 1) if end > first else None
 
 
-def compared(svn: Subversion, root: str, kept: Store, ranges: list[Range]) -> Difference:
+def compared(svn: Subversion, root: str, kept: Store, ranges: list[Range]) -> LogDifference:
     """Return what differs between some revisions of a copy and the log."""
     is_reworded = False
     for entry in [*svn.log(root, ranges)] if ranges else ():
@@ -70,7 +70,7 @@ def compared(svn: Subversion, root: str, kept: Store, ranges: list[Range]) -> Di
         if not has_kept_paths(entry, kept) or not has_properties and rev == kept.head:
             return OTHER
         is_reworded |= not has_properties
-    return Difference(False, is_reworded)
+    return LogDifference(False, is_reworded)
 
 
 def is_same_section(section: bytes, found: Properties) -> bool:

@@ -16,7 +16,7 @@ from svnask.sources.access import Access, of_asker
 from svnask.sources.comparing import (
     OTHER,
     SAME,
-    Difference,
+    LogDifference,
     Replaced,
     compared,
     compared_ranges,
@@ -42,7 +42,7 @@ class SubversionSource(Source):
         self.access, self.svn = access, Subversion(access.words)
         self._now: Repository | None = None
         # What differs from a copy, by its identity and its last revision, once that was asked.
-        self._found: tuple[tuple[Kept, int], Difference] | None = None
+        self._found: tuple[tuple[Kept, int], LogDifference] | None = None
 
     @contextmanager
     def advised(self) -> Iterator[None]:
@@ -89,14 +89,14 @@ class SubversionSource(Source):
     def is_as_kept(self, kept: Store) -> bool:
         return self.now.youngest == kept.head and self._difference(kept) == SAME
 
-    def _difference(self, kept: Store) -> Difference:
+    def _difference(self, kept: Store) -> LogDifference:
         """Return what differs between the repository and a copy. Each copy is compared once."""
         state = kept.index.kept, kept.head
         if self._found is None or self._found[0] != state:
             self._found = state, self._compared(kept)
         return self._found[1]
 
-    def _compared(self, kept: Store) -> Difference:
+    def _compared(self, kept: Store) -> LogDifference:
         if self.now.uuid != kept.index.uuid or not 0 <= kept.head <= self.now.youngest or self._shows_more(kept):
             return OTHER
         # Who may not read the root has no log of it, and a copy of a dump.

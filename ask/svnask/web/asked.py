@@ -14,7 +14,7 @@ from svnask.asking.verbs import verb_named
 from svnask.errors import Unsound, Usage
 from svnask.history.open_history import OpenHistory
 from svnask.web.renewed import KeptAnswer, KeptAnswers
-from svnask.web.words import quoted
+from svnask.web.words import shell_word
 
 # The verbs that only read a history.
 VERBS = tuple(
@@ -141,4 +141,4 @@ class Asked:
         """Return the command line that says the same as a page."""
         named = [self.source, *["--below", self._given.below] * bool(self._given.below)]
         end = ["--"] * any(each.startswith("-") for each in targets)
-        return " ".join(map(quoted, ["svnask", *named, verb, *options, *end, *targets]))
+        return " ".join(map(shell_word, ["svnask", *named, verb, *options, *end, *targets]))

@@ -8,7 +8,7 @@ from svnask.paths import with_peg
 from svnask.web.asked import Asked
 from svnask.web.request import Request
 from svnask.web.site import Page, address
-from svnask.web.words import chosen
+from svnask.web.words import text_of_choice
 
 NEEDED = ("from", "to")
 # How many revisions a table has.
@@ -17,7 +17,7 @@ MOST = 200
 
 def compare(asked: Asked, request: Request) -> Page:
     """Return what the second one has and the first one lacks, and what can still be merged."""
-    before, after = (chosen(request.value(name)) for name in NEEDED)
+    before, after = (text_of_choice(request.value(name)) for name in NEEDED)
     names = asked.kept("names", names_of_today, patience=None)
     values: dict[str, object] = {"before": before, "after": after, "names": names, "is_asked": bool(before and after)}
     if not (before and after):
@@ -49,7 +49,7 @@ def compare(asked: Asked, request: Request) -> Page:
 
 
 def names_of_today(asked: Asked) -> list[str]:
-    """Return the branches and tags that can be chosen."""
+    """Return the branches and tags that can be text_of_choice."""
     return [with_peg(path) for path in sorted({row["path"] for row in asked.objects("branches") if row["is_alive"]})]
 
 

@@ -12,10 +12,10 @@ SPECIAL = re.compile(r"['\\]")
 ESCAPE = re.compile(rb"\\(?:x([0-9a-f]{2})|(.))", re.DOTALL)
 
 
-def quoted(text: str) -> str:
+def shell_word(text: str) -> str:
     r"""Return a text as a word of a shell. Bytes that a page does not show are written as `$'\xff'`.
 
-    >>> print(quoted("/trunk"), quoted("/a b"), quoted("/a'\x1b"), quoted("/\udcff"))
+    >>> print(shell_word("/trunk"), shell_word("/a b"), shell_word("/a'\x1b"), shell_word("/\udcff"))
     /trunk '/a b' $'/a\'\x1b' $'/\xff'
     """
     if not HIDDEN.search(text):
@@ -29,13 +29,13 @@ def in_bytes(found: re.Match[str]) -> str:
 
 def choice(text: str) -> str:
     r"""Return a text for a field of a form: itself, or as a word `$'\xff'`."""
-    return quoted(text) if HIDDEN.search(text) else text
+    return shell_word(text) if HIDDEN.search(text) else text
 
 
-def chosen(text: str) -> str:
+def text_of_choice(text: str) -> str:
     r"""Return what a field of a form stands for.
 
-    >>> chosen(choice("/a'\x1b")), chosen("/a b")
+    >>> text_of_choice(choice("/a'\x1b")), text_of_choice("/a b")
     ("/a'\x1b", '/a b')
     """
     if not (text.startswith("$'") and text.endswith("'") and len(text) > 2):

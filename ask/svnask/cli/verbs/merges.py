@@ -34,8 +34,10 @@ class MergesVerb(Verb):
         top = {history.source.path}
         # What was merged into a part of the source may come from elsewhere.
         graph = graph_of(history, [] if top == ROOT else [EVERYWHERE])
-        into = Selection(graph, paths_of(history, patterns_of(history, given)) or top)
-        of = Selection(graph, paths_of(history, [pattern_of(history, pattern) for pattern in given.sources]) or ROOT)
+        into = Selection(graph, matching_paths(history, patterns_of(history, given)) or top)
+        of = Selection(
+            graph, matching_paths(history, [pattern_of(history, pattern) for pattern in given.sources]) or ROOT
+        )
         every = [*merges_of(graph), *reverse_merges_of(graph)]
         found = [each for each in every if into.has(each.target, each.into) and of.has(each.source, each.of)]
         return sorted(found, key=attrgetter("rev"), reverse=True)
@@ -53,13 +55,13 @@ class MergesVerb(Verb):
             yield found
 
 
-def paths_of(history: OpenHistory, patterns: Sequence[bytes]) -> set[bytes]:
+def matching_paths(history: OpenHistory, patterns: Sequence[bytes]) -> set[bytes]:
     """Return the paths that match some patterns."""
     return {life.path for life in lives_of(history, patterns)} if patterns else set()
 
 
 class Selection:
-    """What is at or below some paths: branches by any name that they had, and what was merged below them."""
+    """Paths at or below some others: branches by any name that they had, and what was merged below them."""
 
     def __init__(self, graph: Graph, paths: set[bytes]) -> None:
         self._paths = paths
