@@ -34,14 +34,14 @@ from tests.ask.drawn_repositories import drawn
 from tests.ask.questions import ALL
 
 if TYPE_CHECKING:
-    from svnask.web import asked, hosts
+    from svnask.web import asked, hosts, overview
     from svnask.web import path as path_page
     from svnask.web import renewed, site
     from svnask.web import words as page_words
     from svnask.web import wsgi
 else:
-    names = ("asked", "hosts", "path", "renewed", "site", "words", "wsgi")
-    asked, hosts, path_page, renewed, site, page_words, wsgi = (Lazy(f"svnask.web.{name}") for name in names)
+    names = ("asked", "hosts", "overview", "path", "renewed", "site", "words", "wsgi")
+    asked, hosts, overview, path_page, renewed, site, page_words, wsgi = (Lazy(f"svnask.web.{name}") for name in names)
 
 ADDRESS = "127.0.0.1:8080"
 LACKING = [name for name in web.NEEDED if importlib.util.find_spec(name) is None]
@@ -268,6 +268,23 @@ class Web(base.Case):
             self.assertIn(AT_ONCE, self.got_first(opened, "/path/trunk").content)
             is_over.set()
             self.assertIn("/trunk", self.got(opened, "/path/trunk").text)
+
+    def test_a_page_that_lacks_something_is_made_again(self) -> None:
+        is_ready, draw = threading.Event(), overview.drawn
+        self.addCleanup(is_ready.set)
+
+        def late(*words: Any) -> overview.ShownPicture:
+            is_ready.wait()
+            return draw(*words)
+
+        opened = self.opened(base.dump_of("merges"))
+        with mock.patch("svnask.web.overview.drawn", late):
+            page = self.got(opened, "/path/trunk").text
+            self.assertIn("This page is not complete", page)
+            self.assertNotIn("Merges into it", page)
+            is_ready.set()
+            base.wait_for(lambda: "Merges into it" in self.got(opened, "/path/trunk").text)
+            self.assertNotIn("This page is not complete", self.got(opened, "/path/trunk").text)
 
     def test_few_answers_are_found_at_once(self) -> None:
         answers, is_over, index = renewed.KeptAnswers(), threading.Event(), self.history(base.dump_of("branches")).index

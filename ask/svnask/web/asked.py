@@ -1,6 +1,7 @@
 """The answers of verbs to the queries of addresses: `path=trunk&limit=5` is `--limit=5 trunk`."""
 from __future__ import annotations
 
+import copy
 import time
 from argparse import SUPPRESS, Action, Namespace
 from collections.abc import Callable, Iterator, Mapping, Sequence
@@ -131,7 +132,10 @@ class Asked:
             try:
                 with view:
                     asked = Asked(self._given, self._answers, view)
-                    return KeptAnswer(make(asked), asked.notes, None, view.index)
+                    found = make(asked)
+                    # What lacks an answer that is still to be found counts as one about an older history.
+                    of = copy.copy(view.index) if asked.is_waiting else view.index
+                    return KeptAnswer(found, asked.notes, None, of)
             except Exception as error:  # pylint: disable=broad-exception-caught
                 return KeptAnswer(None, [], error, view.index)
 
