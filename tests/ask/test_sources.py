@@ -246,7 +246,8 @@ class Hanging(Case):
         for words in (["log", "-l", "1"], ["update"], ["serve"]):
             said = "svnask: svn was not done after 1 seconds, which --timeout gives"
             self.check_unanswered(1, said, "--timeout", "1", self.url, *words)
-        self.check_unanswered(2, "argument --timeout: 'soon' is not a number", "--timeout=soon", self.url, "log")
+        for text, said in (("soon", "'soon' is not a number"), ("0", "it takes one second or more")):
+            self.check_unanswered(2, f"argument --timeout: {said}", f"--timeout={text}", self.url, "log")
         made = self.repository()
         self.assertEqual(self.asked(made.url, "log", "--timeout", "60"), self.asked(made.url, "log"))
 

@@ -246,10 +246,12 @@ class Crawls(Browsed):
             self.assertEqual(self.texts("h1"), [" ".join(f"{shown}@{rev}".split())])
 
     def check_command(self, address: str, line: str) -> None:
-        """Check that a command prints what its page has."""
+        """Check that a command prints what its page has, or says why there is nothing, as the page does."""
         words = base.words_of(line)
         done = base.called(*words)
-        self.assertIn(done.status, (0, *[1] * ("check-mergeinfo" in words)), (address, line, done.said))
+        if done.status != 0 and "check-mergeinfo" not in words:
+            self.assertIn(done.said.splitlines()[0].partition("svnask: ")[2], self.texts("main")[0], (address, line))
+            return
         if words[1] == "log" and "--search" not in line:
             wanted = [f"r{rev}" for rev in map(int, base.HEAD_OF_ENTRY.findall(done.output))]
             self.assertEqual(self.first_column("Log"), wanted[:50], (address, line))

@@ -9,7 +9,7 @@ from collections.abc import Sequence
 from typing import IO, TYPE_CHECKING, Any, NoReturn
 
 from svnask import __version__
-from svnask.asking.verb import counted
+from svnask.asking.verb import seconds
 from svnask.asking.verbs import EXAMPLE_OF, HELP, verb_named
 from svnask.asking.words import OF_ALL, ordered_words, places, split_access, with_source
 from svnask.errors import Usage
@@ -123,7 +123,7 @@ def parser(asked: str | None = None) -> Parser:
     made.add_argument("--csv", action="store_true", help="print a table of comma-separated values")
     made.add_argument("--no-cache", action="store_true", help="read the source anew, and keep nothing of it")
     made.add_argument("--offline", action="store_true", help="answer from what is kept, without asking the repository")
-    made.add_argument("--timeout", metavar="SECONDS", type=counted, help="how long the repository may take to answer")
+    made.add_argument("--timeout", metavar="SECONDS", type=seconds, help="how long the repository may take to answer")
     made.add_argument(
         "--below", metavar="PATH", default="", help="have targets and patterns begin at a path of the source"
     )
@@ -135,7 +135,7 @@ def parser(asked: str | None = None) -> Parser:
         for option in ("--json", "--csv", "--no-cache", "--offline"):
             below.add_argument(option, action="store_true", default=argparse.SUPPRESS, help=argparse.SUPPRESS)
         below.add_argument("--below", metavar="PATH", default=argparse.SUPPRESS, help=argparse.SUPPRESS)
-        below.add_argument("--timeout", type=counted, default=argparse.SUPPRESS, help=argparse.SUPPRESS)
+        below.add_argument("--timeout", type=seconds, default=argparse.SUPPRESS, help=argparse.SUPPRESS)
         if name == asked:
             verb = verb_named(name)
             below.usage, below.epilog = verb.usage, f"Example: svnask {EXAMPLE_OF[name]}"

@@ -118,6 +118,14 @@ def counted(text: str) -> int:
     return number(text)
 
 
+def seconds(text: str) -> int:
+    """The number of seconds that an argument is, which is not 0."""
+    found = counted(text)
+    if found == 0:
+        raise ArgumentTypeError("it takes one second or more")
+    return found
+
+
 def shown(text: bytes | None) -> str | None:
     return None if text is None else decoded(text)
 
