@@ -46,7 +46,7 @@ def parts_of(name: str, found: type[Any]) -> Iterator[str]:
 
 def fields_of(found: type[Any]) -> str:
     """Return the fields of a row with their types, as its class has them."""
-    body = re.split(r"\n    (?:def |@)", inspect.getsource(found), 1)[0]
+    body = re.split(r"\n    (?:def |@)", inspect.getsource(found), maxsplit=1)[0]
     return textwrap.dedent(body.rpartition('"""')[2]).strip()
 
 

@@ -156,7 +156,8 @@ class Kinds(base.Case):
         lives = [each for each in base.objects(dump, "migration") if each["type"] in KINDS]
         self.assertEqual(kinds, {each["path"]: each["type"] for each in lives})
         path = self.folder / f"{dump.name}.db"
-        self.asked(dump, "export", path)
+        # Python 3.12 warns of processes that are begun while the threads of an earlier question end.
+        self.assertEqual(base.called(dump, "export", path).status, 0)
         with closing(sqlite3.connect(path)) as opened:
             self.assertEqual(kinds, dict(opened.execute("SELECT path, kind FROM branch")))
         for kind, verb in (("tag", "changed-tags"), ("branch", "unmerged")):

@@ -111,6 +111,10 @@ class Contains(base.Case):
         self.check_unanswered(1, "svnask: E205000: There is no change 0", dump, "contains", "0-3")
         self.check_unanswered(1, "'contains --search BUG-103' is about revisions", dump, "contains", "BUG-103")
 
+    def test_a_refused_dump_has_no_answer_about_no_revision(self) -> None:
+        dump = self.made("dump", dump_of([added(b"none/f", FILE)]))
+        self.check_unanswered(1, "svnask: dump refused: 16 NoParent", dump, "contains", "--search", "none", "/")
+
     def test_an_at_sign_before_another_word_is_a_part_of_a_name(self) -> None:
         dump = self.made("dump", dump_of([added(b"a@b"), added(b"a@1")]))
         done = base.called(dump, "contains", "1", "a@b", "a@1@")

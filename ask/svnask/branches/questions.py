@@ -197,6 +197,8 @@ def holders_of_all(
     alive = alive_in(history, lives_of(history, patterns), peg)
     revs = [rev for rev in revs if rev <= head]
     if not revs:
+        # Nothing is asked, and the dump may be one that is refused.
+        history.check()
         return
     bounds = (revs[0], revs[-1])
     lists_more = log.may_list_more(history)
