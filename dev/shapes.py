@@ -142,6 +142,22 @@ def renames(count: int) -> bytes:
     return dump_of(*steps)
 
 
+def moved_folder(count: int) -> bytes:
+    """Many tags in a folder, which is moved with the folder that it is in."""
+    made = ([copied(b"tags/y/t%d" % number, b"trunk", 1)] for number in range(count))
+    moved = [added(b"p"), copied(b"p/tags", b"tags", count + 1), deleted(b"tags")]
+    return dump_of([added(b"trunk"), added(b"tags"), added(b"tags/y"), A_FILE], *made, moved)
+
+
+def renamed_folder(count: int) -> bytes:
+    """A folder with one branch in it that is renamed again and again."""
+    steps: list[list[Node]] = [[*FOLDERS, added(b"branches/d0")], [copied(b"branches/d0/b", b"trunk", 1)]]
+    for number in range(1, count):
+        before = b"branches/d%d" % (number - 1)
+        steps.append([copied(b"branches/d%d" % number, before, number + 1), deleted(before)])
+    return dump_of(*steps)
+
+
 def made_again(count: int) -> bytes:
     """A folder that is deleted and made again and again, at first with many branches in it."""
     again = ([deleted(b"branches")] if number % 2 else [added(b"branches")] for number in range(1, count + 1))

@@ -62,6 +62,8 @@ class Shapes(base.Case):
             (shapes.chain, 800, "branches; graph; contains 2"),
             (shapes.long_value, 1500, "log -g trunk; graph; new branches/b0 trunk; contains 5; unmerged"),
             (shapes.renames, 1500, "unmerged"),
+            (shapes.moved_folder, 1500, "branches; changed-tags; contains 2"),
+            (shapes.renamed_folder, 1500, "branches; unmerged"),
             (shapes.long_name, 10000, "graph"),
             (shapes.made_again, 1500, "branches"),
             (shapes.copied_into_folders, 3000, "new trunk@1 trunk"),
