@@ -24,7 +24,7 @@ from svnask.merges.gains import Gain, LifeQuery
 from svnask.merges.recorded import MergeinfoAlone
 from svnask.merges.value_changes import Differences
 from svnask.paths import tops_of
-from svnask.projects import BRANCH, TAG, TRUNK
+from svnask.projects import BRANCH, TAG, TRUNK, kind_by_name
 
 MOST_OTHERS, MOST_COLUMNS = 400, 500
 # The fewest parts of the time.
@@ -155,8 +155,8 @@ def drawable(history: OpenHistory, patterns: Sequence[bytes], view: View = View(
     known = list(dict.fromkeys([*lives, *parts.wholes]))
     answers = history.ask(branches.logs_of(known) + [query for _, query in asked])
     operative = branches.operative(known, answers)
-    # What is named by a pattern and is none of these is drawn as a branch.
-    kinds = {life: history.tree.branches.get(life.path, BRANCH) for life in lives}
+    # A pattern may name what is none of these.
+    kinds = {life: history.tree.branches.get(life.path) or kind_by_name(life.path) or BRANCH for life in lives}
     chained = ordered_lanes(
         [Lane(chain, kinds[chain[0]], [rev for life in chain for rev in operative[life]]) for chain in chains(kinds)]
     )
