@@ -7,6 +7,7 @@ mod HistoryTo
 mod HitsOfSegments
 mod JoinedRecords
 mod KeptRecords
+mod LastSet
 mod ListsOfNodes
 mod MappedNodes
 mod NewestRecords

@@ -72,17 +72,24 @@ pub records_of-here : (each : NodeRecord) (records : List NodeRecord) → record
 records_of-here each records =
     ap (λ b. map record_view (if b then each ∷ filter (λ e. e.rev == each.rev) records else filter (λ e. e.rev == each.rev) records)) (eq-eqb each.rev each.rev refl)
 
+-- what holds of the records of a revision holds of those in its list
+pub All-of_revision : (P : Record NameId ValueId → Type 0) (records : List NodeRecord) (rev : ℕ)
+    → All (λ each. each.rev ≡ rev → P (record_view each)) records → All P (records_of records rev)
+All-of_revision P [] rev all = All-nil P
+All-of_revision P (each ∷ records) rev all =
+    let Q = λ (e : NodeRecord). e.rev ≡ rev → P (record_view e) in
+    let rest = records_of records rev in
+    let more = All-of_revision P records rev (All-tail Q each records all) in
+    cond_both (each.rev == rev) (each ∷ filter (λ e. e.rev == rev) records) (filter (λ e. e.rev == rev) records) (λ found. All P (map record_view found))
+    (λ here. All-cons P (record_view each) rest (All-head Q each records all (eqb-true each.rev rev here)) more)
+    (λ other. more)
+
 -- what holds of the records of the revisions up to a limit holds of those of each of these revisions
 pub All-records_of : (P : Record NameId ValueId → Type 0) (records : List NodeRecord) (limit rev : ℕ) → rev ≤ limit
     → All (λ each. each.rev ≤ limit → P (record_view each)) records → All P (records_of records rev)
-All-records_of P [] limit rev within all = All-nil P
-All-records_of P (each ∷ records) limit rev within all =
-    let Q = λ (e : NodeRecord). e.rev ≤ limit → P (record_view e) in
-    let rest = records_of records rev in
-    let more = All-records_of P records limit rev within (All-tail Q each records all) in
-    cond_both (each.rev == rev) (each ∷ filter (λ e. e.rev == rev) records) (filter (λ e. e.rev == rev) records) (λ found. All P (map record_view found))
-    (λ here. All-cons P (record_view each) rest (All-head Q each records all (let at : each.rev ≡ rev = eqb-true each.rev rev here in omega arith)) more)
-    (λ other. more)
+All-records_of P records limit rev within all =
+    All-of_revision P records rev
+    (All-weaker (λ (e : NodeRecord). e.rev ≤ limit → P (record_view e)) (λ (e : NodeRecord). e.rev ≡ rev → P (record_view e)) (λ e up here. up (omega arith)) records all)
 
 -- ---- fewer records
 

@@ -1,5 +1,6 @@
 -- The newest revisions through which a path stood at one location, and where it came from, by the records.
 use Rattle.path_index.proofs.Common.{◌≡◌, ℕ, zero, suc, ◌+◌, ◌<◌, get_or, length, take, drop, length-drop, ◌≤◌, nat_lt, Bool, false, true, if◌then◌else◌, List, [], ◌∷◌, ◌++◌, All, IfSome, Option, None, Some, is_some, option_map, refl, sym, ap, subst, ◌∙◌, arith, inl, inr, append_assoc, true≢false, cases_lt, leb-true, le-leb, get_or-drop, drop_more, take-append-drop, slice_get-get_or, All-push, All-weaker, same_path, same_name, NameId, IsSame-same_name, record_view, Record, origin_of, location, Entry, Tree, entry_at, is_there, tree_of, end_tree, start_tree, NodeRecord, ValueId, step_back, location_back, location_stays, location_stays_here, location_agree, OriginsFall, OriginsFall-trees_of, OriginsAreThere-trees_of, records_of, history_to, trees_to, AreRising, IsThere, origin_of_entry, origin_view, SetsOrigin, IsSpan, location_before, Origin, IsNewestBelow, IsCountUpTo, AreByPath, SetsAt, RecordsByPath}
+use Rattle.path_index.specs.LastSet.{origin_in}
 use Rattle.svn_dump.proofs.Trees.{entry_from, entry_at-tree_from_revision, entry_at-first_tree}
 use Rattle.path_index.proofs.EntriesOfPaths.{SetsAt-SetsPath}
 use Rattle.path_index.proofs.RecordEffects.{KeepsOrigin-unset}
@@ -7,12 +8,9 @@ use Rattle.path_index.proofs.Rising.{AreUpTo-before}
 use Rattle.path_index.proofs.Prefixes.{trees_before, tree_of-last, tree_of-earlier, start_tree-first, start_tree-suc, All-records_of, records_of-back, records_of-among}
 use Rattle.path_index.proofs.Steps.{KeepsOrigin, KeepsOrigin-fold, SetsOrigin-fold}
 
-abbrev origin_in : List NameId → Tree NameId ValueId → Option (List NameId × ℕ)
-origin_in path tree = origin_of_entry (entry_at same_name tree path)
-
--- where the path of a revision came from
-abbrev origin_at : List NodeRecord → List NameId → ℕ → Option (List NameId × ℕ)
-origin_at records path rev = origin_in path (tree_of (trees_to records rev) rev)
+-- where the path of a tree came from
+abbrev tree_origin : List NameId → Tree NameId ValueId → Option (List NameId × ℕ)
+tree_origin path tree = origin_of_entry (entry_at same_name tree path)
 
 -- the records of the revision keep the origin of the path
 abbrev IsIdle : List NodeRecord → List NameId → ℕ → Type 0
@@ -33,31 +31,31 @@ first_origin false e none = refl
 
 module _ (records : List NodeRecord) (path : List NameId) where
   left_in : (rev : ℕ) → IsThere records path rev → IsIdle records path rev
-      → (is_there same_name (start_tree (trees_before records rev)) path ≡ true) × (origin_at records path rev ≡ origin_in path (start_tree (trees_before records rev)))
+      → (is_there same_name (start_tree (trees_before records rev)) path ≡ true) × (origin_in records path rev ≡ tree_origin path (start_tree (trees_before records rev)))
   left_in rev there idle =
       let trees = trees_before records rev in
       rw (tree_of-last records rev) (KeepsOrigin-fold same_name path trees (start_tree trees) (records_of records rev) idle (rw (tree_of-last records rev) at there))
 
   -- before a revision whose records keep the origin the path stood where it stands
-  origin_at-idle : (rev : ℕ) → IsThere records path (suc rev) → IsIdle records path (suc rev)
-      → IsThere records path rev × (origin_at records path (suc rev) ≡ Some (path, rev))
-  origin_at-idle rev there idle =
+  pub origin_in-idle : (rev : ℕ) → IsThere records path (suc rev) → IsIdle records path (suc rev)
+      → IsThere records path rev × (origin_in records path (suc rev) ≡ Some (path, rev))
+  origin_in-idle rev there idle =
       let (before, so) = left_in (suc rev) there idle in
       let at = ap (λ tree. entry_at same_name tree path) (start_tree-suc records rev) ∙ entry_at-tree_from_revision same_name IsSame-same_name rev (tree_of (trees_to records rev) rev) path in
       let (old, origin) = carried_origin path rev (entry_at same_name (tree_of (trees_to records rev) rev) path) (ap is_some (sym at) ∙ before) in
       (old, so ∙ ap origin_of_entry at ∙ origin)
 
   -- in the first revision it has no origin
-  origin_at-first : IsThere records path 0 → IsIdle records path 0 → origin_at records path 0 ≡ None
-  origin_at-first there idle =
-      (left_in 0 there idle).1 ∙ ap (origin_in path) (start_tree-first records)
+  origin_in-first : IsThere records path 0 → IsIdle records path 0 → origin_in records path 0 ≡ None
+  origin_in-first there idle =
+      (left_in 0 there idle).1 ∙ ap (tree_origin path) (start_tree-first records)
       ∙ ap origin_of_entry (entry_at-first_tree {M = ValueId} same_name path) ∙ first_origin (same_path same_name [] path) _ refl
 
   -- its origin is the one that the newest record which does not keep it sets
-  origin_at-set : (rev : ℕ) (origin : Option (List NameId × ℕ)) (front : List (Record NameId ValueId)) (each : Record NameId ValueId) (more : List (Record NameId ValueId))
+  origin_in-set : (rev : ℕ) (origin : Option (List NameId × ℕ)) (front : List (Record NameId ValueId)) (each : Record NameId ValueId) (more : List (Record NameId ValueId))
       → IsThere records path rev → records_of records rev ≡ front ++ each ∷ more → SetsOrigin same_name path origin each → All (KeepsOrigin same_name path) more
-      → origin_at records path rev ≡ origin
-  origin_at-set rev origin front each more there split sets all =
+      → origin_in records path rev ≡ origin
+  origin_in-set rev origin front each more there split sets all =
       let trees = trees_before records rev in
       let whole = tree_of-last records rev ∙ ap (end_tree same_name trees) split in
       rw whole (SetsOrigin-fold same_name path trees origin (start_tree trees) front each more sets all (rw whole at there))
@@ -68,16 +66,17 @@ module _ (records : List NodeRecord) (path : List NameId) where
   there_through lo (suc hi) there idle rev low high = elim (cases_lt hi rev) [
     | inl past ↦ let here : rev ≡ suc hi = omega arith in rw here there
     | inr within ↦
-        there_through lo hi (origin_at-idle hi there (idle (suc hi) (omega arith) (omega arith))).0
+        there_through lo hi (origin_in-idle hi there (idle (suc hi) (omega arith) (omega arith))).0
         (λ r from to. idle r from (omega arith)) rev low within
   ]
 
 module _ {records : List NodeRecord} {path : List NameId} {peg lo : ℕ} (there : IsThere records path peg) (low : lo ≤ peg) (idle : AreIdle records path lo peg) where
   -- given the origin in the oldest of the revisions
-  IsSpan-from : (from : Option Origin) → origin_at records path lo ≡ origin_view from → IsSpan records path peg (record { lo = lo; origin = from })
+  IsSpan-from : (from : Option Origin) → origin_in records path lo ≡ origin_view from → IsSpan records path peg (record { lo = lo; origin = from })
   IsSpan-from from began =
       record {
         within = low;
+        came = began;
         stays = λ rev above to. location_stays_here same_name (trees_to records peg) falls path lo peg rev above to itself;
         back = λ rev past.
             location_stays same_name (trees_to records peg) falls path lo peg rev low (omega arith) itself
@@ -96,11 +95,11 @@ module _ {records : List NodeRecord} {path : List NameId} {peg lo : ℕ} (there 
 
       itself : (rev : ℕ) → lo ≤ rev → rev < peg → origin_of same_name (trees_to records peg) path (suc rev) ≡ Some (path, rev)
       itself rev above below =
-          ap (origin_in path) (tree_of-earlier records (suc rev) peg (omega arith))
-          ∙ (origin_at-idle records path rev (there_through records path lo peg there idle (suc rev) (omega arith) (omega arith)) (idle (suc rev) (omega arith) (omega arith))).1
+          ap (tree_origin path) (tree_of-earlier records (suc rev) peg (omega arith))
+          ∙ (origin_in-idle records path rev (there_through records path lo peg there idle (suc rev) (omega arith) (omega arith)) (idle (suc rev) (omega arith) (omega arith))).1
 
       came_from : origin_of same_name (trees_to records peg) path lo ≡ origin_view from
-      came_from = ap (origin_in path) (tree_of-earlier records lo peg low) ∙ began
+      came_from = ap (tree_origin path) (tree_of-earlier records lo peg low) ∙ began
 
       fell : (o : Origin) → from ≡ Some o → o.rev < lo
       fell o is = falls.falls path lo o.path o.rev (came_from ∙ ap origin_view is)
@@ -153,7 +152,7 @@ module _ {records : List NodeRecord} {by_path : RecordsByPath} {peg count : ℕ}
       ∙ records_of-back (front ++ each ∷ []) more rev (All-weaker (λ (e : NodeRecord). e.rev ≤ each.rev) (λ e. e.rev < rev) (λ e old. omega arith) (front ++ each ∷ []) older)))
       (All-records_of (KeepsOrigin same_name path) more peg rev to keep) in
       IsSpan-from there up idle from
-      (origin_at-set records path each.rev (origin_view from) (records_of front each.rev) (record_view each) (records_of more each.rev)
+      (origin_in-set records path each.rev (origin_view from) (records_of front each.rev) (record_view each) (records_of more each.rev)
       (there_through records path each.rev peg there idle each.rev (omega arith) up)
       (ap (λ all. records_of all each.rev) split ∙ records_of-among front each more)
       sets (All-records_of (KeepsOrigin same_name path) more peg each.rev up keep))
@@ -164,4 +163,4 @@ module _ {records : List NodeRecord} {by_path : RecordsByPath} {peg count : ℕ}
       let idle : (rev : ℕ) → rev ≤ peg → IsIdle records path rev = λ rev within.
       All-records_of (KeepsOrigin same_name path) records peg rev within (keep_from 0 (λ index from below. none index below)) in
       let later : AreIdle records path 0 peg = λ rev past. idle rev in
-      IsSpan-from there (omega arith) later None (origin_at-first records path (there_through records path 0 peg there later 0 (omega arith) (omega arith)) (idle 0 (omega arith)))
+      IsSpan-from there (omega arith) later None (origin_in-first records path (there_through records path 0 peg there later 0 (omega arith) (omega arith)) (idle 0 (omega arith)))

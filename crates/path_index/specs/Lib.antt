@@ -1,6 +1,7 @@
 pub mod History
 pub mod Index
 pub mod Joining
+pub mod LastSet
 pub mod NamedRevisions
 pub mod Nodes
 pub mod Numbers

@@ -3,6 +3,8 @@ use Rattle.std.specs.Prelude.{◌≡◌, ℕ, ◌<◌, ◌≤◌, nat_lt, if◌t
 use Rattle.svn_path.specs.declared.names.NameId.{NameId}
 use Rattle.svn_dump.specs.declared.record.NodeRecord.{NodeRecord}
 use Rattle.path_index.specs.Index.{IsThere, location_in}
+use Rattle.path_index.specs.LastSet.{origin_in}
+use Rattle.path_index.specs.RecordEffect.{origin_view}
 use Rattle.svn_dump.specs.declared.record.Origin.{Origin}
 use Rattle.path_index.specs.declared.span.Span.{Span}
 
@@ -11,9 +13,10 @@ abbrev pub location_before : List NodeRecord → ℕ → Option Origin → Optio
 location_before records rev origin =
     option_and_then (λ from. if nat_lt from.rev rev then None else location_in records from.path from.rev rev) origin
 
--- from `lo` up to `peg` the path stood where it stands in `peg`, and before at its origin
+-- from `lo` up to `peg` the path stood where it stands in `peg`, in `lo` it came from its origin, and before it stood there
 pub record IsSpan (records : List NodeRecord) (path : List NameId) (peg : ℕ) (span : Span) : Type 0 where
   pub within : span.lo ≤ peg
+  pub came : origin_in records path span.lo ≡ origin_view span.origin
   pub stays : (rev : ℕ) → span.lo ≤ rev → rev ≤ peg → location_in records path peg rev ≡ Some path
   pub back : (rev : ℕ) → rev < span.lo
       → location_in records path peg rev ≡ location_before records rev span.origin

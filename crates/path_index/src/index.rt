@@ -3,17 +3,20 @@ ghost use Rattle.std.specs.Prelude.{◌≡◌, ◌+◌, ◌^◌, ◌<◌, ◌++�
 ghost use Rattle.path_index.specs.History.{AreRising};
 ghost use Rattle.path_index.specs.Index.{AreHitsInRange, AreHitsOf, AreMaximal, AreSegmentsOf, IsThere, IsWhole, gap_between, location_in};
 ghost use Rattle.path_index.specs.Joining.{records_up_to_end};
+ghost use Rattle.path_index.specs.LastSet.{IsLastSet, KeepsPath, origin_in};
 ghost use Rattle.path_index.specs.NamedRevisions.{AddsOperative};
 ghost use Rattle.path_index.specs.Range.{is_in_range};
+ghost use Rattle.path_index.specs.RecordEffect.{origin_view};
 ghost use Rattle.path_index.specs.Span.{IsSpan};
 
+use crate::last_set::last_set;
 use crate::records::Records;
 use crate::records_by_path::RecordsByPath;
 use crate::segment::{Hit, RevisionRange, Segment};
 use crate::span::Span;
 use std::alloc::{AllocError, Global};
 use std::marker::Model;
-use svn_dump::NodeRecord;
+use svn_dump::{NodeRecord, Origin};
 use svn_path::Path;
 use svn_text::Seed;
 
@@ -153,6 +156,32 @@ impl Index {
             at = origin.rev;
         }
         Ok(None)
+    }
+
+    /// The newest revision up to this one whose records set a path: add it without a copy, or copy to it or to a path
+    /// above it. 0 if there is none.
+    pub fn last_set(&self, path: &Path, rev: u32) -> u32
+        requires { IsWhole self.now }
+        ensures exact { IsLastSet self.now.records path.now rev result }
+        ensures kept { KeepsPath self.now.records path.now result rev }
+    {
+        last_set(&self.records, &self.by_path, path, rev)
+    }
+
+    /// Where the path of a revision came from.
+    pub fn origin(&self, path: &Path, rev: u32) -> Result<Option<Origin>, AllocError>
+        requires whole { IsWhole self.now }
+        requires there { IsThere self.now.records path.now rev }
+        ensures { IfOk result (λ origin. origin_view origin ≡ origin_in self.now.records path.now rev) }
+    {
+        let Span { lo, origin } = self.span_up_to(path, rev)?;
+        if lo == rev {
+            return Ok(origin);
+        }
+        Ok(Some(Origin {
+            path: path.dup()?,
+            rev: rev - 1,
+        }))
     }
 
     /// The span of the path of revision `peg`.

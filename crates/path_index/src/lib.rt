@@ -11,6 +11,7 @@
 mod copied;
 mod index;
 mod joining;
+mod last_set;
 mod nodes;
 mod numbers;
 mod records;

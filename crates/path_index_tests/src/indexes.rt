@@ -399,6 +399,57 @@ fn a_range_limits_a_log(rt: HostRuntime) -> Result<(), Fail> {
     Ok(())
 }
 
+// The newest revisions up to 2, 3, 5 and 6 that set `b`.
+fn last_sets(index: &Index, alloc: Global) -> Result<[u32; 4], AllocError>
+    requires { IsWhole index.now }
+{
+    let b = path_of(alloc, B)?;
+    let sets = [2, 3, 5, 6].map(|rev| index.last_set(&b, rev));
+    drop(b);
+    Ok(sets)
+}
+
+#[test]
+fn a_copy_and_a_replacement_set_a_path(rt: HostRuntime) -> Result<(), Fail> {
+    let index = index_of_replacements(rt.alloc(), Making::Whole)?;
+    let sets = last_sets(&index, rt.alloc());
+    drop(index);
+    assert_eq!(rt; sets?, [0, 3, 4, 6]);
+    Ok(())
+}
+
+// Where `b` of a revision came from.
+fn origin_of(
+    index: &Index,
+    alloc: Global,
+    rev: u32,
+) -> Result<Option<(Option<NameId>, u32)>, AllocError>
+    requires whole { IsWhole index.now }
+    requires there { IsThere index.now.records (record { 0 = 1 } ∷ []) rev }
+{
+    let b = path_of(alloc, B)?;
+    let origin = index.origin(&b, rev);
+    drop(b);
+    let origin = origin?;
+    let from = origin
+        .as_ref()
+        .map(|from| (name_of(Some(&from.path)), from.rev));
+    drop(origin);
+    Ok(from)
+}
+
+#[test]
+fn a_path_comes_from_a_copy_or_from_the_revision_before(rt: HostRuntime) -> Result<(), Fail> {
+    let index = index_of_replacements(rt.alloc(), Making::Whole)?;
+    let copied = origin_of(&index, rt.alloc(), 3);
+    let changed = origin_of(&index, rt.alloc(), 5);
+    let replaced = origin_of(&index, rt.alloc(), 6);
+    drop(index);
+    assert_eq!(rt; copied?, Some((Some(A), 1)));
+    assert_eq!(rt; (changed?, replaced?), (Some((Some(B), 4)), None));
+    Ok(())
+}
+
 // An index of a record that adds `a`, which so many others precede.
 fn index_of_addition(alloc: Global, first: u32) -> Result<Index, AllocError>
     requires { first ≤ 1 }
