@@ -14,6 +14,8 @@ pub mod MapsOfDumps
 pub mod NearestFound
 pub mod NodesPut
 pub mod ChildMapLookups
+pub mod ChildMapNames
+pub mod ChildrenFound
 pub mod ChildMapSteps
 pub mod Positions
 pub mod RecordNodes

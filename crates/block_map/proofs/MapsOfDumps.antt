@@ -1,5 +1,5 @@
 -- What a map of records of a dump shows.
-use Rattle.block_map.proofs.Common.{◌≡◌, ℕ, ◌+◌, ◌≤◌, List, [], ◌++◌, length, append_assoc, append-nil, refl, ap, sym, ◌∙◌, arith, common_steps, length-map, map-append, same_name, NameId, DumpValue, record_view, Record, NodeRecord, ValueId, ends_of, record_at_tick, Found, resolved, look, looks_of, with_mergeinfo, IsFoundUpTo, look_from, look_through, IsEndIn, IsMapOf, IsMapOfFirstRecords, MapValue, hi_of, look_in, records_at_ticks, revision_in, standing_at, standing_of}
+use Rattle.block_map.proofs.Common.{◌≡◌, ℕ, ◌+◌, ◌≤◌, List, [], ◌++◌, length, append_assoc, append-nil, refl, ap, sym, ◌∙◌, arith, common_steps, length-map, map-append, same_name, NameId, DumpValue, record_view, Record, NodeRecord, ValueId, ends_of, record_at_tick, Found, resolved, look, with_mergeinfo, IsFoundUpTo, look_from, look_through, IsEndIn, IsMapOf, IsMapOfFirstRecords, MapValue, hi_of, look_in, records_at_ticks, revision_in, standing_at, standing_of}
 use Rattle.block_map.specs.Look as found
 use Rattle.block_map.proofs.FoundFrom.{up_to-look}
 use Rattle.block_map.proofs.LooksThrough.{look-append, look-front, look_from-within}

@@ -11,3 +11,8 @@ IfOk-both (Err e) P Q R both p q = tt
 pub OnOk-from : {X E : Type 0} (r : Result X E) (P : Type 0) → P → OnOk r P
 OnOk-from (Ok x) P holds = holds
 OnOk-from (Err e) P holds = tt
+
+-- what holds where the result is an `Ok`, for two reasons
+pub OnOk-both : {X E : Type 0} (r : Result X E) (P Q R : Type 0) → (P → Q → R) → OnOk r P → OnOk r Q → OnOk r R
+OnOk-both (Ok x) P Q R both p q = both p q
+OnOk-both (Err e) P Q R both p q = tt

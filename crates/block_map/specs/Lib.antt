@@ -1,4 +1,5 @@
 pub mod Blocks
+pub mod Children
 pub mod Ends
 pub mod FaultFound
 pub mod FaultKind

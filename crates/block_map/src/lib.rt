@@ -8,6 +8,7 @@
 //! ```
 #![tactic(auto)]
 
+mod children;
 mod ends;
 mod entry;
 mod fault;
@@ -21,7 +22,7 @@ mod trees;
 mod trie;
 
 pub use ends::Ends;
-pub use entry::{Entry, Nearest};
+pub use entry::{Child, Entry, Nearest};
 pub use fault::{Fault, FaultKind};
 pub use faults::{check, check_from, fault_at};
 pub use found::Found;

@@ -5,6 +5,7 @@ ghost use Rattle.svn_dump.specs.Record.{most_components};
 ghost use Rattle.svn_dump.specs.declared.record.NodeRecord.{NodeRecord};
 ghost use Rattle.svn_path.specs.Path.{same_name};
 ghost use Rattle.block_map.specs.Blocks.{AreBlocksBefore, AreBlocksFrom, block_nodes, block_records, block_trees};
+ghost use Rattle.block_map.specs.Children.{AreChildren};
 ghost use Rattle.block_map.specs.Ends.{HaveSources, ends_of};
 ghost use Rattle.block_map.specs.Look.{IsFoundAtOrBefore, at, from_beginning, look, resolved};
 ghost use Rattle.block_map.specs.LookThrough.{IsFoundUpTo, look_through as looked_through};
@@ -15,7 +16,7 @@ ghost use Rattle.block_map.specs.Trees.{AreMapTrees, AreTrees, end_of_trees, loo
 ghost use Rattle.svn_path.specs.declared.names.NameId.{NameId};
 
 use crate::ends::Ends;
-use crate::entry::{Entry, Nearest};
+use crate::entry::{Child, Entry, Nearest};
 use crate::found::Found;
 use crate::looked::Looked;
 use crate::trees::Trees;
@@ -148,6 +149,11 @@ impl Map {
         }
     }
 
+    /// The allocator of its blocks.
+    pub fn allocator(&self) -> Global {
+        *self.blocks.allocator()
+    }
+
     /// How many nodes the map keeps.
     pub fn nodes(&self) -> u64
         ensures exact { result ≡ self.now.nodes }
@@ -232,6 +238,23 @@ impl Map {
             → IfOk result (AreEntryAndNearest (standing_at same_name (revision_in dump rev)) path.now) }
     {
         self.standing_and_nearest(tick, path.parts())
+    }
+
+    /// What stands directly below a path at a tick, in a map from the beginning of a history: each name once, in no
+    /// particular order.
+    pub fn children(&self, tick: u32, path: &Path) -> Result<Vec<Child>, AllocError>
+        requires begins { self.now.lo ≡ 0 }
+        requires within { tick ≤ hi_of self.now }
+        ensures found { IfOk result (λ children.
+            AreChildren (λ below. standing_of (look_in self.now tick below)) path.now children.items) }
+
+        // In a map of the first records of a dump, at the end of a revision, they are those of the tree of the revision.
+        ensures of_revision { (dump : _) (rev : _) → IsMapOfFirstRecords dump self.now → IsEndIn dump rev tick
+            → IfOk result (λ children.
+            AreChildren (standing_at same_name (revision_in dump rev)) path.now children.items) }
+    {
+        let names = self.names_below(tick, path.parts())?;
+        self.children_of(tick, path.parts(), &names)
     }
 
     /// What stands at a path of these components, and the nearest mergeinfo of it.
@@ -341,7 +364,7 @@ fn count_nodes(blocks: &[Arc<Trees>]) -> u64
 }
 
 /// Those of these blocks that begin before a tick.
-fn blocks_before(blocks: &[Arc<Trees>], tick: u32) -> &[Arc<Trees>]
+pub(crate) fn blocks_before(blocks: &[Arc<Trees>], tick: u32) -> &[Arc<Trees>]
     requires { (lo : ℕ) × AreBlocksFrom lo (block_trees blocks.now) }
     ensures { AreBlocksBefore tick (block_trees blocks.now) (block_trees result.now) }
 {

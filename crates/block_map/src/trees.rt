@@ -1,6 +1,8 @@
 //! The trees of a block, one after each of its records.
 ghost use Rattle.std.specs.Prelude.{◌≡◌, ◌+◌, ◌^◌, ◌<◌, ◌≤◌, ◌++◌, ◌∷◌, [], length, option_map, IfOk, OnOk};
-ghost use Rattle.std.specs.Prelude.{None};
+ghost use Rattle.std.specs.Prelude.{None, Some, IfSome};
+ghost use Rattle.std.specs.List.Sorted.{IsStrictlyIncreasing};
+ghost use Rattle.block_map.specs.Children.{AreChildren, AreKept, AreOthersAt, HaveAllNames};
 ghost use Rattle.svn_dump.specs.Dump.{record_view, setting_view};
 ghost use Rattle.svn_dump.specs.Tree.{mergeinfo_after};
 ghost use Rattle.block_map.specs.Trees.{AreMapTrees, AreTrees, IsNodeAfter, IsRootAfter, IsRootAt, SameTrees, ShowsPath, ShowsTick, action_in, end_of_trees, look_in_trees, look_through_trees};
@@ -10,14 +12,14 @@ ghost use Rattle.block_map.specs.Ends.{HasSourceBefore, record_at_tick};
 ghost use Rattle.block_map.specs.Looked.{looked_view};
 ghost use Rattle.block_map.specs.Map.{AreEntryAndNearest, found_view};
 ghost use Rattle.block_map.specs.Standing.{entry_view, standing_of};
-ghost use Rattle.block_map.specs.Trie.{IsNodeOf, IsSound};
+ghost use Rattle.block_map.specs.Trie.{IsNodeOf, IsSound, as_at};
 
 use crate::ends::Ends;
-use crate::entry::{Entry, Nearest};
+use crate::entry::{Child, Entry, Nearest};
 use crate::found::Found;
 use crate::ghost_record::GhostRecord;
 use crate::looked::Looked;
-use crate::trie::{Node, NodeId, Trie};
+use crate::trie::{Location, Node, NodeId, Trie};
 use par_scan::GhostList;
 use std::alloc::{AllocError, Global};
 use svn_dump::{Act, Kind, Mi, NodeRecord, ValueId};
@@ -259,6 +261,65 @@ impl Trees {
         }
     }
 
+    /// Appends the numbers of the names directly below what later records found that these records say something of.
+    /// Directly below it at any other name is what was there at a location before the records, if there is one.
+    pub(crate) fn push_names(
+        &self,
+        found: Option<Location>,
+        names: &mut Vec<u32>,
+    ) -> Result<Option<Location>, AllocError>
+        requires trees { AreTrees self.now }
+        requires within { IfSome found (λ at. at.tick ≤ end_of_trees self.now) }
+        ensures kept { OnOk result (AreKept names.old.items names.new.items) }
+        ensures earlier { IfOk result (λ base. IfSome base (λ at. at.tick ≤ self.now.start)) }
+        ensures others { IfOk result (AreOthersAt (λ name says. resolved self.now.start says
+            ≡ resolved self.now.start (look_through_trees self.now (as_at found (name ∷ [])))) names.new.items) }
+    {
+        match found {
+            None => Ok(None),
+            Some(location) => self.push_names_below(location, names),
+        }
+    }
+
+    /// Appends the numbers of the names directly below a location that these records say something of.
+    fn push_names_below(
+        &self,
+        location: Location,
+        names: &mut Vec<u32>,
+    ) -> Result<Option<Location>, AllocError>
+        requires trees { AreTrees self.now }
+        requires within { location.tick ≤ end_of_trees self.now }
+        ensures kept { OnOk result (AreKept names.old.items names.new.items) }
+        ensures earlier { IfOk result (λ base. IfSome base (λ at. at.tick ≤ self.now.start)) }
+        ensures others { IfOk result (AreOthersAt (λ name says. resolved self.now.start says
+            ≡ resolved self.now.start (look_through_trees self.now (as_at (Some location) (name ∷ [])))) names.new.items) }
+    {
+        if location.tick <= self.start {
+            return Ok(Some(location));
+        }
+        let root = self.root(location.tick);
+        let base = self.trie.push_names(root, location.path.parts(), names)?;
+        Ok(up_to(base, self.start))
+    }
+
+    /// What stands at these names directly below a path at a tick after `start`, as far as these records say it.
+    pub(crate) fn children_of(
+        &self,
+        tick: u32,
+        path: &[NameId],
+        names: &[u32],
+    ) -> Result<Vec<Child>, AllocError>
+        requires trees { AreTrees self.now }
+        requires after { self.now.start < tick }
+        requires within { tick ≤ end_of_trees self.now }
+        requires once { IsStrictlyIncreasing names.now }
+        requires all { HaveAllNames (λ below. standing_of (look_in_trees self.now tick below)) path.now names.now }
+        ensures { IfOk result (λ children.
+            AreChildren (λ below. standing_of (look_in_trees self.now tick below)) path.now children.items) }
+    {
+        self.trie.children_of(self.root(tick), path, names)
+    }
+
     /// What stands at a path at a tick after `start`, as far as these records say it.
     pub(crate) fn standing(&self, tick: u32, path: &[NameId]) -> Option<Entry>
         requires trees { AreTrees self.now }
@@ -309,5 +370,16 @@ fn mergeinfo_of_addition(mi: Mi) -> Option<ValueId>
     match mi {
         Mi::Keep => None,
         Mi::Put(mi) => mi,
+    }
+}
+
+/// A location, if it is not past a tick.
+fn up_to(location: Option<Location>, tick: u32) -> Option<Location>
+    ensures up_to { IfSome result (λ at. at.tick ≤ tick) }
+    ensures same { (rest : _) → IsFoundUpTo tick (as_at location rest) → as_at result rest ≡ as_at location rest }
+{
+    match location {
+        Some(location) if location.tick <= tick => Some(location),
+        _ => None,
     }
 }

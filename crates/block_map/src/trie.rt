@@ -1,11 +1,13 @@
 //! A persistent trie of paths.
 ghost use Rattle.std.specs.Prelude.{◌≡◌, ◌+◌, ◌<◌, ◌++◌, ◌∷◌, [], Some, IfOk, IfSome, OnOk, length, option_map, slice_get};
+ghost use Rattle.std.specs.List.Sorted.{IsStrictlyIncreasing};
+ghost use Rattle.block_map.specs.Children.{AreChildren, AreKept, AreOthersAt, HaveAllNames};
 ghost use Rattle.block_map.specs.Look.{with_mergeinfo as changed};
 ghost use Rattle.block_map.specs.Looked.{looked_view};
 ghost use Rattle.block_map.specs.Map.{AreEntryAndNearest, found_view, nearest_view};
 ghost use Rattle.block_map.specs.Standing.{entry_view, mergeinfo_of, standing_of};
 ghost use Rattle.block_map.specs.Trie.{ExtendsTrie, HasLocation, IsBaseOfPath, IsCopiedNode, IsLocationOfPath, IsNodeOf, IsPathBaseOf, IsPositionOf, IsSound, PutsNode};
-ghost use Rattle.block_map.specs.Trie.{as_at, child_at, child_of, found_at, own_found, path_base_view, position_view, standing_below};
+ghost use Rattle.block_map.specs.Trie.{as_at, child_at, child_of, found_at, own_found, found_below, path_base_view, position_view, standing_below, at_root};
 
 mod child_map;
 mod child_maps;
@@ -16,11 +18,12 @@ mod numbers;
 mod position;
 mod stored_child_map;
 
-use crate::entry::{Entry, Nearest};
+use crate::entry::{Child, Entry, Nearest, push_child};
 use crate::found::Found;
 use crate::looked::Looked;
 use child_maps::ChildMaps;
-use location::{Location, LocationId};
+pub(crate) use location::Location;
+use location::LocationId;
 use locations::Locations;
 pub(crate) use node::{Node, NodeId};
 use node::{Base, OwnEntry};
@@ -347,6 +350,50 @@ impl Trie {
             nearest = self.mergeinfo(position, depth + 1).or(nearest);
         }
         (self.entry(position), nearest)
+    }
+
+    /// Appends the numbers of the names that a node of a path below a root has children of. What is found directly below
+    /// the path at any other name is what its base has there: what stood below a location, if there is one.
+    pub(crate) fn push_names(
+        &self,
+        root: Node,
+        path: &[NameId],
+        names: &mut Vec<u32>,
+    ) -> Result<Option<Location>, AllocError>
+        requires { IsNodeOf self.now root }
+        ensures kept { OnOk result (AreKept names.old.items names.new.items) }
+        ensures others { IfOk result (AreOthersAt
+            (λ name found. found_below self.now (at_root root) (path.now ++ name ∷ []) ≡ found) names.new.items) }
+    {
+        let position = self.find(root, path);
+        let Some(node) = position.node else {
+            return self.location(position.base, path);
+        };
+        self.child_maps.push_names(node.children, names)?;
+        let base = base_of_path(node.base, position.base, path.len());
+        self.location(base, path)
+    }
+
+    /// What is known to stand at these names directly below a path below a root.
+    pub(crate) fn children_of(
+        &self,
+        root: Node,
+        path: &[NameId],
+        names: &[u32],
+    ) -> Result<Vec<Child>, AllocError>
+        requires sound { IsNodeOf self.now root }
+        requires once { IsStrictlyIncreasing names.now }
+        requires all { HaveAllNames (standing_below self.now root) path.now names.now }
+        ensures { IfOk result (λ children. AreChildren (standing_below self.now root) path.now children.items) }
+    {
+        let position = self.find(root, path);
+        let mut children = Vec::new(*self.nodes.allocator());
+        for name in names {
+            let name = NameId(*name);
+            let child = self.step(position, name, path.len());
+            push_child(name, self.entry(child), &mut children)?;
+        }
+        Ok(children)
     }
 
     /// The mergeinfo at a position of so many components, if it is known that there is some.

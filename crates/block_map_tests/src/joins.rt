@@ -355,7 +355,12 @@ fn copies_of_an_earlier_map_are_those_of_their_own_record(rt: HostRuntime) -> Re
 }
 
 // The map of all records, joined of that of the first ones and that of the others.
-fn map_of_both(alloc: Global, dump: &Dump, ends: &Ends, count: usize) -> Result<Map, Fail>
+pub(crate) fn map_of_both(
+    alloc: Global,
+    dump: &Dump,
+    ends: &Ends,
+    count: usize,
+) -> Result<Map, Fail>
     requires { ends.now ≡ ends_of dump.now.counts }
     ensures { IfOk result (λ map. IsMapOf dump.now map) }
 {

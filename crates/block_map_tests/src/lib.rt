@@ -5,6 +5,8 @@
 #![tactic(auto)]
 
 #[cfg(test)]
+mod children;
+#[cfg(test)]
 mod forms;
 #[cfg(test)]
 mod joins;

@@ -1,5 +1,8 @@
 //! Maps of children, which share what they have in common.
 ghost use Rattle.std.specs.Prelude.{◌≡◌, ◌<◌, ◌≤◌, ◌≢◌, ◌++◌, ◌∷◌, [], length, ◌+◌, ◌%◌, ◌==◌, if◌then◌else◌, IfOk, OnErr, OnOk};
+ghost use Rattle.std.specs.List.{Contains};
+ghost use Rattle.std.specs.Prelude.{ℕ, Some, ◌*◌, ◌^◌};
+ghost use Rattle.block_map.specs.Children.{AreKept, HaveMapNames};
 ghost use Rattle.block_map.specs.ChildMaps.{child_in, child_map_at, Extends, AreOrdered, HasOne, HasSides, HasTwo, HaveNodesBelow, IsOrderedAfter, SetsChild};
 
 use crate::trie::child_map::{ChildMap, ChildMapId};
@@ -29,6 +32,9 @@ impl Model for ChildMaps {
 
     ghost invariant = { λ c. AreOrdered (map child_map_of c.maps.items) };
 }
+
+/// The number after the greatest one of a name.
+const NAMES_END: u64 = 1 << 32;
 
 /// The one of two maps that the lowest bit tells.
 fn by_bit(bits: u32, even: ChildMapId, odd: ChildMapId) -> ChildMapId
@@ -208,4 +214,67 @@ impl ChildMaps {
         let other_map = self.push_leaf(other / 2, other_node)?;
         self.push_sides(one, one_map, other_map)
     }
+
+    /// Appends the numbers of all names of a map.
+    pub(crate) fn push_names(&self, map: ChildMapId, names: &mut Vec<u32>) -> Result<(), AllocError>
+        ensures kept { OnOk result (AreKept names.old.items names.new.items) }
+        ensures all { OnOk result (HaveMapNames self.now map 0 1 names.new.items) }
+    {
+        self.push_names_from(map, 0, 1, names)
+    }
+
+    /// Appends the numbers of the names of a map, whose bits count `scale` each and go on from `low`.
+    #[cycle(push_names_from)]
+    fn push_names_from(
+        &self,
+        map: ChildMapId,
+        low: u64,
+        scale: u64,
+        names: &mut Vec<u32>,
+    ) -> Result<(), AllocError>
+        requires low { low < 2 ^ 32 }
+        requires scale { scale ≤ 2 ^ 32 }
+        ensures kept { OnOk result (AreKept names.old.items names.new.items) }
+        ensures all { OnOk result (HaveMapNames self.now map low scale names.new.items) }
+    {
+        match self.child_map(map) {
+            None => Ok(()),
+            Some(ChildMap::Leaf { bits, .. }) => push_name(low, scale, bits, names),
+            Some(ChildMap::Branch { even, odd }) => {
+                let next = next_scale(scale);
+                self.push_names_from(even, low, next, names)?;
+                if low + scale >= NAMES_END {
+                    return Ok(());
+                }
+                self.push_names_from(odd, low + scale, next, names)
+            }
+        }
+    }
+}
+
+/// What the bits after the lowest one count. There are no names where it is more than `NAMES_END`, but for bits of 0.
+fn next_scale(scale: u64) -> u64
+    requires { scale ≤ 2 ^ 32 }
+    ensures small { result ≤ 2 ^ 32 }
+    ensures same { (bits : ℕ) → scale * (2 * bits) < 2 ^ 32 → result * bits ≡ scale * (2 * bits) }
+{
+    if 2 * scale < NAMES_END {
+        2 * scale
+    } else {
+        NAMES_END
+    }
+}
+
+/// Appends the number of the name of these bits, if it is one.
+fn push_name(low: u64, scale: u64, bits: u32, names: &mut Vec<u32>) -> Result<(), AllocError>
+    requires low { low < 2 ^ 32 }
+    requires scale { scale ≤ 2 ^ 32 }
+    ensures kept { OnOk result (AreKept names.old.items names.new.items) }
+    ensures added { OnOk result (low + scale * bits < 2 ^ 32 → Contains names.new.items (low + scale * bits)) }
+{
+    let name = low + scale * u64::from(bits);
+    if name < NAMES_END {
+        names.push(name as u32)?;
+    }
+    Ok(())
 }
