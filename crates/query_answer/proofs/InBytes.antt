@@ -61,14 +61,14 @@ module _ (dump : DumpValue) (kept : IsDump dump) where
   IsWhole-index_of_dump = record { first = refl; rising = AreRising-from_revisions dump.records dump.counts kept.revisions }
 
   module _ (peg : ℕ) (within : peg < length dump.counts) where
-    in_history : peg < length (history_view dump)
+    pub in_history : peg < length (history_view dump)
     in_history = omega (arith, within, length-records_by_revision dump.counts (map record_view dump.records))
 
-    front_is : history_to dump.records peg ≡ take (peg + 1) (history_view dump)
+    pub front_is : history_to dump.records peg ≡ take (peg + 1) (history_view dump)
     front_is = history_to-take dump kept.revisions peg within
 
     -- what the records tell up to a revision is what the trees of all revisions tell
-    is_there-index : (path : List NameId) → is_there same_name (tree_of (trees_to dump.records peg) peg) path ≡ is_there same_name (tree_of trees_by_number peg) path
+    pub is_there-index : (path : List NameId) → is_there same_name (tree_of (trees_to dump.records peg) peg) path ≡ is_there same_name (tree_of trees_by_number peg) path
     is_there-index path =
         ap (λ front. is_there same_name (tree_of (trees_of same_name front) peg) path) front_is
         ∙ is_there-take same_name (history_view dump) peg in_history path peg (omega arith)

@@ -5,13 +5,16 @@ mod HeldRevisions
 pub mod InBytes
 mod NearestMergeinfo
 mod OperativeLocations
+pub mod OriginsInBytes
 mod PathSegments
 mod PegsFound
 pub mod Queries
 mod RangeFilters
+pub mod RevisionRecords
 pub mod RevisionTicks
 mod SourceRevisions
-mod TreeEntries
+pub mod StandingsInBytes
+pub mod TreeEntries
 pub mod TreePaths
 mod TreeValues
 pub mod WorkersSeen

@@ -36,7 +36,7 @@ range_of-uncut field none = sym (rw (list_any-Lacks 58 field none) refl)
 
 -- ---- fields
 
-split-cut : {line field rest : List ℕ} → IsCutAt 9 line field rest
+pub split-cut : {line field rest : List ℕ} → IsCutAt 9 line field rest
     → slice_split is_tab line ≡ field ∷ slice_split is_tab rest
 split-cut {line} {field} {rest} cut = slice_split-cut 9 line field rest (CutsFirst-IsCutAt 9 line field rest cut)
 

@@ -18,7 +18,7 @@ module _ (dump : DumpValue) (index : IndexValue) (kept : MapValue) (ends : List 
   length-ends = ap length repo.ends_are ∙ length-ends_of dump.counts
 
   module _ (rev : ℕ) (within : rev < length dump.counts) where
-    end-at : get_or ends rev 0 ≡ end_of dump.counts rev
+    pub end-at : get_or ends rev 0 ≡ end_of dump.counts rev
     end-at = ap (λ all. get_or all rev 0) repo.ends_are ∙ ends_of-at dump.counts rev within
 
     -- a revision's number of records is its end

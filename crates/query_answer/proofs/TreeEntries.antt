@@ -3,7 +3,7 @@ use Rattle.query_answer.proofs.Common.{◌≡◌, ℕ, Bool, true, false, if◌t
 use Rattle.std.proofs.Common.{filter_map}
 
 -- what holds of each thing that a list's elements give
-All-filter_map : {X Y : Type 0} (h : X → Option Y) (P : Y → Type 0) (xs : List X) → All (λ x. IfSome (h x) P) xs → All P (filter_map h xs)
+pub All-filter_map : {X Y : Type 0} (h : X → Option Y) (P : Y → Type 0) (xs : List X) → All (λ x. IfSome (h x) P) xs → All P (filter_map h xs)
 All-filter_map h P [] each = All-nil P
 All-filter_map {X} {Y} h P (x ∷ xs) each =
     by (h x) (All-head (λ x. IfSome (h x) P) x xs each) (All-filter_map h P xs (All-tail (λ x. IfSome (h x) P) x xs each))

@@ -1,5 +1,5 @@
 -- What holds of each component of a history's paths holds of what its locations find.
-use Rattle.query_answer.proofs.Common.{◌≡◌, ℕ, zero, suc, ◌<◌, ◌==◌, nat_lt, Bool, true, false, if◌then◌else◌, List, [], ◌∷◌, ◌++◌, Option, None, Some, All, IfSome, option_map, length, refl, subst, All-nil, All-cons, All-tail, All-append, none-some, same_Some, option_and_then_some, DumpValue, IsDump, IsActOf, action_view, history_view, Action, delete, change, add, copy, Record, History, origin_of, location_within, location, Entry, entry_at, tree_of, entry_of_copy, trees_of, entry_from, below, same_name, IsPathOf, NameId, IsSame, IsSame-same_name}
+use Rattle.query_answer.proofs.Common.{◌≡◌, ℕ, zero, suc, ◌<◌, ◌==◌, nat_lt, Bool, true, false, if◌then◌else◌, List, [], ◌∷◌, ◌++◌, Option, None, Some, All, IfSome, option_map, length, refl, subst, All-nil, All-cons, All-tail, All-append, none-some, same_Some, option_and_then_some, DumpValue, IsDump, IsActOf, action_view, history_view, Action, delete, change, add, copy, Record, History, origin_of, location_within, location, Entry, entry_at, tree_of, entry_of_copy, trees_of, entry_from, below, same_name, IsPathOf, NameId, ValueId, IsSame, IsSame-same_name}
 use Rattle.svn_dump.specs.declared.record.Act.{Act}
 use Rattle.svn_dump.specs.declared.record.Act.TheVariants as act
 use Rattle.svn_dump.proofs.Locations.{not_past}
@@ -59,7 +59,7 @@ module _ {C M : Type 0} (same : C → C → Bool) (P : C → Type 0) where
   -- ---- what stands at a path, and what a location finds
 
   module _ (is : IsSame same) (history : History C M) (each : HistoryHas P history) where
-    entry_has : (path : List C) (rev : ℕ) (entry : Entry C M) → entry_at same (tree_of (trees_of same history) rev) path ≡ Some entry → EntryHas (path, entry)
+    pub entry_has : (path : List C) (rev : ℕ) (entry : Entry C M) → entry_at same (tree_of (trees_of same history) rev) path ≡ Some entry → EntryHas (path, entry)
     entry_has path rev entry found = entry_at-has same EntryHas (RecordHas P) entries_keep is history each path rev entry found
 
     -- an origin
@@ -110,3 +110,8 @@ module _ (dump : DumpValue) (is : IsDump dump) where
   pub IsOf-location : (path : List NameId) (peg rev : ℕ) (found : List NameId) → IsPathOf dump.names path
       → location same_name (trees_of same_name (history_view dump)) path peg rev ≡ Some found → IsPathOf dump.names found
   IsOf-location path peg rev found of at = location_has same_name (IsNamed dump) IsSame-same_name (history_view dump) (HistoryHas-names dump is) path peg rev found of at
+
+  -- and each path in a tree
+  pub IsOf-entry : (path : List NameId) (rev : ℕ) (entry : Entry NameId ValueId) → entry_at same_name (tree_of (trees_of same_name (history_view dump)) rev) path ≡ Some entry
+      → IsPathOf dump.names path
+  IsOf-entry path rev entry found = (entry_has same_name (IsNamed dump) IsSame-same_name (history_view dump) (HistoryHas-names dump is) path rev entry found).0

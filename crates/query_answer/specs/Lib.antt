@@ -4,11 +4,13 @@ pub mod Held
 pub mod HeldValue
 pub mod Merged
 pub mod NearestValue
+pub mod OriginsInBytes
 pub mod Peg
 pub mod PrintedMergeinfo
 pub mod Query
 pub mod Range
 pub mod Repo
 pub mod SourceHits
+pub mod Standings
 pub mod Unanswered
 pub mod Worker

@@ -1,5 +1,5 @@
 -- A repository: a dump of a lawful history, and the answers to queries about it.
-use Rattle.std.specs.Prelude.{◌≡◌, ℕ, ◌<◌, ◌≤◌, List, Option, Some, None, Err, IsFalse, All, ⊤, bytes_eq, filter, length, map, option_map}
+use Rattle.std.specs.Prelude.{◌≡◌, ℕ, ◌<◌, ◌≤◌, false, List, Option, Some, None, Err, IsFalse, All, ⊤, bytes_eq, filter, length, map, option_map}
 use Rattle.path_index.specs.History.{history_to, trees_to}
 use Rattle.path_index.specs.Index.{AreMaximal, AreSegmentsOf, IndexValue, IsThere, segment_view}
 use Rattle.path_index.specs.Operative.{operative_of}
@@ -10,7 +10,7 @@ use Rattle.svn_path.specs.Path.{same_name, components_of, IsPathOf}
 use Rattle.svn_path.specs.declared.names.NameId.{NameId}
 use Rattle.svn_dump.specs.Dump.{DumpValue, IsDump, history_in_bytes, history_view}
 use Rattle.svn_dump.specs.Fault.{first_fault}
-use Rattle.svn_dump.specs.Tree.{tree_of, trees_of}
+use Rattle.svn_dump.specs.Tree.{is_there, tree_of, trees_of}
 use Rattle.svn_dump.specs.declared.record.ValueId.{ValueId}
 use Rattle.block_map.specs.Ends.{ends_of}
 use Rattle.block_map.specs.Map.{IsEndIn, IsMapOf, MapValue, revision_in}
@@ -27,6 +27,8 @@ use Rattle.query_answer.specs.declared.answers.Effective.{Effective}
 use Rattle.query_answer.specs.declared.answers.Effective.TheVariants.{Malformed, Value}
 use Rattle.query_answer.specs.Held.{depth_in, held_value}
 use Rattle.query_answer.specs.declared.held_mergeinfo.HeldMergeinfo.{HeldMergeinfo}
+use Rattle.query_answer.specs.declared.status.Status.{Status}
+use Rattle.query_answer.specs.declared.status.Status.TheVariants as status
 use Rattle.query_answer.specs.declared.target.PathRev.{PathRev}
 use Rattle.query_answer.specs.declared.target.Target.{Target}
 use Rattle.query_answer.specs.Unanswered.{HasAnswer}
@@ -107,6 +109,30 @@ pub record IsPegFound (dump : DumpValue) (peg : PegValue) (at : PathRev) : Type 
   pub is_in : IsPathIn dump at
   pub spells : peg_in_bytes dump at ≡ peg_view peg
   pub answered : (answer : Peg → Answer) → with_peg_in dump peg answer ≡ answer (peg_in_bytes dump at)
+
+-- a path in a revision is that of a peg, and need not be there
+pub record IsPegNamed (dump : DumpValue) (peg : PegValue) (at : PathRev) : Type 0 where
+  pub kept : IsDump dump
+  pub of_names : IsPathOf dump.names at.path
+  pub within : at.rev < length dump.counts
+  pub spells : peg_in_bytes dump at ≡ peg_view peg
+
+-- the revision of the peg is there, and no revision has its path
+pub record IsPathNowhere (dump : DumpValue) (peg : PegValue) : Type 0 where
+  pub within : peg.rev < length (trees_in_bytes dump)
+  pub nowhere : (rev : ℕ) → is_there bytes_eq (tree_of (trees_in_bytes dump) rev) (peg_view peg).path ≡ false
+
+-- the status says that the revision of the peg is not there, or else that no revision has its path
+abbrev pub IsNowhereBy : DumpValue → PegValue → Status → Type 0
+IsNowhereBy dump peg status.Ok = ⊥
+IsNowhereBy dump peg status.BadQuery = ⊥
+IsNowhereBy dump peg status.NoSuchRevision = length (trees_in_bytes dump) ≤ peg.rev
+IsNowhereBy dump peg status.NoSuchPath = IsPathNowhere dump peg
+IsNowhereBy dump peg status.MalformedMergeinfo = ⊥
+
+abbrev pub IsPegNowhere : DumpValue → PegValue → Unanswered → Type 0
+IsPegNowhere dump peg (Refused status) = IsNowhereBy dump peg status
+IsPegNowhere dump peg Memory = ⊤
 
 -- each answer about the peg has this status, and looks at no mergeinfo
 abbrev pub IsPegRefused : DumpValue → PegValue → Unanswered → Type 0

@@ -98,7 +98,7 @@ impl Answer {
 
 /// Appends the first line of an answer, or as much of it as there is memory for.
 #[tactic(auto, using(svn_text::proofs::Appended::appended))]
-fn append_head(place: u32, status: Status, out: &mut Vec<u8>) -> Result<(), AllocError>
+pub fn append_head(place: u32, status: Status, out: &mut Vec<u8>) -> Result<(), AllocError>
     ensures ok { OnOk result (out.new.items ≡ out.old.items ++ answer_head (place + 1) status) }
     ensures begins { BeginsWith out.old.items out.new.items }
 {

@@ -26,10 +26,12 @@ mod target;
 mod unanswered;
 mod verbs;
 
-pub use answers::{Answer, Effective, MergedRevision};
+pub use answers::{Answer, Effective, MergedRevision, append_head};
 pub use peg::Peg;
 pub use printed_mergeinfo::PrintedMergeinfo;
 pub use query::Query;
 pub use repo::Repo;
 pub use status::Status;
+pub use target::PathRev;
+pub use unanswered::Unanswered;
 pub use verbs::answer;

@@ -28,7 +28,7 @@ impl<'a> Model for Peg<'a> {
 
 impl<'a> Peg<'a> {
     /// The path before the last `@` of a field, and the revision after it.
-    pub(crate) fn read(field: &'a [u8]) -> Option<Self>
+    pub fn read(field: &'a [u8]) -> Option<Self>
         ensures { result ≡ peg_value_of field.now }
     {
         let (path, rev) = split_at_last(b'@', field)?;

@@ -1,22 +1,25 @@
 //! A history that is ready to be asked.
-ghost use Rattle.std.specs.Prelude.{◌≡◌, ◌+◌, ◌<◌, length, slice_get, None, Some, IfErr, IfOk};
-ghost use Rattle.svn_path.specs.Path.{same_name};
-ghost use Rattle.svn_dump.specs.Dump.{IsDump, history_in_bytes, history_view};
+ghost use Rattle.std.specs.Prelude.{◌≡◌, ◌+◌, ◌<◌, [], All, length, map, option_map, slice_get, slice_index_or, sum, take, None, Some, IfErr, IfOk, IfSome};
+ghost use Rattle.svn_path.specs.Path.{components_of, same_name};
+ghost use Rattle.svn_dump.specs.Dump.{IsDump, IsRecordOf, history_in_bytes, history_view, record_view};
 ghost use Rattle.svn_dump.specs.Fault.{first_fault};
 ghost use Rattle.block_map.specs.Ends.{ends_of};
 ghost use Rattle.block_map.specs.Map.{IsMapOf};
 ghost use Rattle.path_index.specs.Index.{location_in};
+ghost use Rattle.path_index.specs.LastSet.{IsLastSet};
+ghost use Rattle.query_answer.specs.OriginsInBytes.{origin_in_bytes, origin_of_path, KeepsPathIn};
 ghost use Rattle.query_answer.specs.Repo.{index_of_dump};
+ghost use Rattle.query_answer.specs.Standings.{AreChildrenIn, standing_in, standing_in_bytes};
 
 use crate::peg::Peg;
 use crate::status::Status;
 use crate::target::{PathRev, Target};
 use crate::unanswered::Unanswered;
-use block_map::{Ends, Map, Nearest};
+use block_map::{Child, Ends, Entry, Map, Nearest};
 use path_index::{Hit, Index, RevisionRange, Segment};
 use std::alloc::{AllocError, Global};
 use std::marker::Model;
-use svn_dump::{Dump, ValueId};
+use svn_dump::{Dump, NodeRecord, Origin, ValueId};
 use svn_path::{Lookup, Names, Path};
 use value_memo::Memo;
 
@@ -42,7 +45,7 @@ impl Model for Repo {
 }
 
 impl Repo {
-    ghost use Rattle.query_answer.specs.Repo.{AreHitsIn, AreSegmentsIn, IsNearestIn, IsPathIn, IsPegFound, IsPegKnown, IsPegRefused, IsTargetFound};
+    ghost use Rattle.query_answer.specs.Repo.{AreHitsIn, AreSegmentsIn, IsNearestIn, IsPathIn, IsPegFound, IsPegKnown, IsPegNamed, IsPegNowhere, IsPegRefused, IsTargetFound};
 
     /// The repository of a dump. The index, the map and the ends are those of the dump.
     pub fn new(dump: Dump, index: Index, map: Map, ends: Ends) -> Self
@@ -107,6 +110,7 @@ impl Repo {
     fn look_up(&self, alloc: Global, peg: &Peg<'_>) -> Result<(PathRev, u32), Unanswered>
         ensures known { IfOk result (λ found. IsPegKnown self.now peg.now found.0 found.1) }
         ensures refused { IfErr result (IsPegRefused self.now peg.now) }
+        ensures nowhere { IfErr result (IsPegNowhere self.now peg.now) }
     {
         let lookup = Path::look_up(alloc, self.dump.names(), peg.path())?;
         let rev = peg.rev();
@@ -119,8 +123,17 @@ impl Repo {
         }
     }
 
+    /// The path of a peg, which need not be there in its revision.
+    pub fn path_of(&self, alloc: Global, peg: &Peg<'_>) -> Result<PathRev, Unanswered>
+        ensures known { IfOk result (IsPegNamed self.now peg.now) }
+        ensures refused { IfErr result (IsPegNowhere self.now peg.now) }
+    {
+        let (at, _) = self.look_up(alloc, peg)?;
+        Ok(at)
+    }
+
     /// The path of a peg in its revision.
-    pub(crate) fn find(&self, alloc: Global, peg: &Peg<'_>) -> Result<PathRev, Unanswered>
+    pub fn find(&self, alloc: Global, peg: &Peg<'_>) -> Result<PathRev, Unanswered>
         ensures found { IfOk result (IsPegFound self.now peg.now) }
         ensures refused { IfErr result (IsPegRefused self.now peg.now) }
     {
@@ -153,6 +166,28 @@ impl Repo {
             return Ok(None);
         }
         self.map.nearest(self.ends.at(rev), path)
+    }
+
+    /// What stands at a path in a revision: nothing past the youngest one.
+    pub fn entry(&self, path: &Path, rev: u32) -> Result<Option<Entry>, AllocError>
+        ensures { IfOk result (λ entry. option_map (standing_in_bytes self.now) entry
+            ≡ standing_in self.now rev (components_of self.now.names path.now)) }
+    {
+        if rev as usize >= self.dump.counts().len() {
+            return Ok(None);
+        }
+        self.map.entry(self.ends.at(rev), path)
+    }
+
+    /// What stands directly below a path in a revision: each name once, in no particular order. There is nothing past
+    /// the youngest revision.
+    pub fn children(&self, path: &Path, rev: u32) -> Result<Vec<Child>, AllocError>
+        ensures { IfOk result (λ children. AreChildrenIn self.now path.now rev children.items) }
+    {
+        if rev as usize >= self.dump.counts().len() {
+            return Ok(Vec::new(self.map.allocator()));
+        }
+        self.map.children(self.ends.at(rev), path)
     }
 
     /// A mergeinfo text of the dump.
@@ -188,5 +223,50 @@ impl Repo {
         ensures { IfOk result (λ hits. AreHitsIn self.now segments.now range hits.items) }
     {
         self.index.operative_in(segments, range)
+    }
+
+    /// The records of a revision, in their order.
+    pub fn records_in(&self, rev: u32) -> &[NodeRecord]
+        requires { rev < length self.now.counts }
+        ensures are { map record_view result.now ≡ slice_index_or (history_view self.now) rev [] }
+        ensures of_dump { All (IsRecordOf self.now) result.now }
+    {
+        let first = self.start_of(rev) as usize;
+        let end = self.ends.at(rev) as usize;
+        let (_, rest) = self.dump.records().split_at(first);
+        let (records, _) = rest.split_at(end - first);
+        records
+    }
+
+    /// How many records the revisions before this one have.
+    fn start_of(&self, rev: u32) -> u32
+        requires { rev < length self.now.counts }
+        ensures { result ≡ sum (take rev self.now.counts) }
+    {
+        match rev.checked_sub(1) {
+            Some(before) => self.ends.at(before),
+            None => 0,
+        }
+    }
+
+    /// The newest revision up to this one whose records set a path: add it without a copy, or copy to it or to a path
+    /// above it. 0 if there is none.
+    pub fn last_set(&self, path: &Path, rev: u32) -> u32
+        requires within { rev < length self.now.counts }
+        ensures exact { IsLastSet self.now.records path.now rev result }
+        ensures kept { KeepsPathIn self.now path.now result rev }
+        ensures dump { IsDump self.now }
+    {
+        self.index.last_set(path, rev)
+    }
+
+    /// Where the path of a revision came from.
+    pub fn origin(&self, path: &Path, rev: u32) -> Result<Option<Origin>, AllocError>
+        requires { IsPathIn self.now (record { path = path.now; rev = rev }) }
+        ensures origin { IfOk result (λ origin. origin_in_bytes self.now origin ≡ origin_of_path self.now path.now rev) }
+        ensures there { IfOk result (λ origin. IfSome origin (λ from. IsPathIn self.now
+            (record { path = from.path; rev = from.rev }))) }
+    {
+        self.index.origin(path, rev)
     }
 }

@@ -7,9 +7,9 @@ use svn_path::{NameId, Path};
 
 /// A path in a revision, by the names of a repository.
 #[derive(Drop)]
-pub(crate) struct PathRev {
-    pub(crate) path: Path,
-    pub(crate) rev: u32,
+pub struct PathRev {
+    pub path: Path,
+    pub rev: u32,
 }
 
 /// A path in a revision whose mergeinfo is asked for, and the nearest mergeinfo of it, if there is any.

@@ -5,7 +5,7 @@ use std::alloc::AllocError;
 
 /// Why a query has no result lines.
 #[derive(Debug, Drop)]
-pub(crate) enum Unanswered {
+pub enum Unanswered {
     /// The answer has this status.
     Refused(Status),
     Memory,

@@ -14,10 +14,14 @@ mod in_parts;
 #[cfg(test)]
 mod queries;
 #[cfg(test)]
+mod records;
+#[cfg(test)]
 mod refused_growths;
 #[cfg(test)]
 mod repository;
 #[cfg(test)]
 mod samples;
+#[cfg(test)]
+mod standings;
 #[cfg(test)]
 mod workers;

@@ -22,6 +22,13 @@ returns-then-rev-counts-clause-refused c =
       refl,
     )
 
+pub returns-then-rev-counts-clause-nowhere : goal.returns-then-rev-counts-clause-nowhere
+returns-then-rev-counts-clause-nowhere c =
+    let dump = c.args.self.now in
+    let repo = IsRepo-view c.self.inside.dump dump c.self.inside.index c.self.inside.map c.self.inside.ends c.self.view_is c.self.invariant in
+    let counts = c.counts.ensures.value ∙ ap (λ each. each.counts) c.self.view_is in
+    omega (arith, c.if-rev-counts.true, c.rev-rev.ensures, ap length counts, length-trees_in_bytes dump repo.dump_is)
+
 pub returns-in-Known-clause-known : goal.returns-in-Known-clause-known
 returns-in-Known-clause-known c =
     let dump = c.args.self.now in
@@ -57,3 +64,18 @@ returns-in-Unknown-clause-refused c =
           (components-parts_of c.args.peg.now.path (false_from_ne_true _ (subst (λ bytes. HasDot bytes → ⊥) c.path.ensures.value c.path.ensures.no_dot))) unknown),
       refl,
     )
+
+pub returns-in-Unknown-clause-nowhere : goal.returns-in-Unknown-clause-nowhere
+returns-in-Unknown-clause-nowhere c =
+    let dump = c.args.self.now in
+    let repo = IsRepo-view c.self.inside.dump dump c.self.inside.index c.self.inside.map c.self.inside.ends c.self.view_is c.self.invariant in
+    let counts = c.counts.ensures.value ∙ ap (λ each. each.counts) c.self.view_is in
+    let names = c.names.ensures.value ∙ ap (λ each. each.names) c.self.view_is in
+    let unknown : HasUnknown dump.names (parts_of c.args.peg.now.path) =
+    subst (λ bytes. HasUnknown dump.names (parts_of bytes)) c.path.ensures.value
+    (subst (λ all. HasUnknown all (parts_of c.path.result.now)) names (rw c.in-Unknown.is at c.in_ok-lookup.ensures)) in
+    record {
+      within = omega (arith, c.if-rev-counts.false, c.rev-rev.ensures, ap length counts, length-trees_in_bytes dump repo.dump_is);
+      nowhere = λ rev. unknown-in_bytes dump repo.dump_is _ rev
+          (components-parts_of c.args.peg.now.path (false_from_ne_true _ (subst (λ bytes. HasDot bytes → ⊥) c.path.ensures.value c.path.ensures.no_dot))) unknown;
+    }

@@ -1,0 +1,36 @@
+use Rattle.query_answer.proofs.Common.{◌≡◌, ◌<◌, ◌≤◌, length, option_map, ap, sym, ◌∙◌, arith, same_name, components_of, revision_in, entry_view, standing_at, IfOk-weaker}
+use Rattle.query_answer.specs.Standings.{standing_in, standing_in_bytes}
+use Rattle.query_answer.proofs.AnswerTexts.{IsRepo-view}
+use Rattle.query_answer.proofs.RevisionTicks.{IsEndIn-at, end-within, length-ends}
+use Rattle.query_answer.proofs.StandingsInBytes.{entry-in_bytes, standing-past}
+use Rattle.query_answer.proofs.repo.Repo.entry.Goals as goal
+
+pub returns-then-rev-counts : goal.returns-then-rev-counts
+returns-then-rev-counts c =
+    let dump = c.args.self.now in
+    let repo = IsRepo-view c.self.inside.dump dump c.self.inside.index c.self.inside.map c.self.inside.ends c.self.view_is c.self.invariant in
+    let counts = c.counts.ensures.value ∙ ap (λ each. each.counts) c.self.view_is in
+    let past : length dump.counts ≤ c.args.rev = omega (arith, c.if-rev-counts.true, ap length counts) in
+    sym (standing-past dump repo.dump_is (components_of dump.names c.args.path.now) c.args.rev past)
+
+pub at-requires : goal.at-requires
+at-requires c =
+    let all = length-ends c.self.inside.dump c.self.inside.index c.self.inside.map c.self.inside.ends c.self.invariant in
+    omega (arith, c.if-rev-counts.false, ap length c.counts.ensures.value, all)
+
+pub entry-requires-clause-within : goal.entry-requires-clause-within
+entry-requires-clause-within c =
+    end-within c.self.inside.dump c.self.inside.index c.self.inside.map c.self.inside.ends c.self.invariant c.args.rev c.at.result
+    (IsEndIn-at c.self.inside.dump c.self.inside.index c.self.inside.map c.self.inside.ends c.self.invariant c.args.rev
+    (omega (arith, c.if-rev-counts.false, ap length c.counts.ensures.value)) c.at.result c.at.ensures)
+
+pub returns : goal.returns
+returns c =
+    let dump = c.args.self.now in
+    let repo = IsRepo-view c.self.inside.dump dump c.self.inside.index c.self.inside.map c.self.inside.ends c.self.view_is c.self.invariant in
+    let counts = c.counts.ensures.value ∙ ap (λ each. each.counts) c.self.view_is in
+    let within : c.args.rev < length dump.counts = omega (arith, c.if-rev-counts.false, ap length counts) in
+    let end = IsEndIn-at dump c.self.inside.index c.self.inside.map c.self.inside.ends repo c.args.rev within c.at.result c.at.ensures in
+    IfOk-weaker c.entry.result (λ entry. option_map entry_view entry ≡ standing_at same_name (revision_in dump c.args.rev) c.args.path.now)
+    (λ entry. option_map (standing_in_bytes dump) entry ≡ standing_in dump c.args.rev (components_of dump.names c.args.path.now))
+    (entry-in_bytes dump repo.dump_is c.args.path.now c.args.rev) (c.entry.ensures.of_revision dump c.args.rev repo.map_is.first end)
