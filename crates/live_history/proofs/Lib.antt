@@ -1,3 +1,4 @@
+mod AnswerTexts
 mod Common
 mod Ends
 mod FedPieces

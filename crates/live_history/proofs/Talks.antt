@@ -2,7 +2,7 @@
 use Rattle.live_history.proofs.Common.{◌≡◌, ℕ, ◌+◌, List, [], ◌∷◌, ◌++◌, length, map, refl, sym, ap, subst, ◌∙◌, append_assoc, append-nil, arith, flat_map, bytes_eq, line_text, IsLawfulDump, IsReply, IsTalk, TalkState, after_turn, after_turns, query_text, Turn, query}
 use Rattle.svn_dump.specs.Record.{HistoryOfBytes}
 use Rattle.svn_dump.specs.Tree.{trees_of}
-use Rattle.svn_report.specs.Report.{texts_from}
+use Rattle.live_history.specs.Answering.{texts_from}
 
 -- no turns, no word
 pub IsTalk-none : (state : TalkState) → IsTalk state [] []

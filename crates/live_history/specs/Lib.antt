@@ -1,3 +1,4 @@
+pub mod Answering
 pub mod Client
 pub mod History
 pub mod PieceEnd

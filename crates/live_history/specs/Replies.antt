@@ -6,7 +6,7 @@ use Rattle.devices.specs.Device.{PullState, PushState}
 use Rattle.svn_text.specs.Line.{line_text}
 use Rattle.svn_dump.specs.Dump.{DumpValue, history_in_bytes}
 use Rattle.query_answer.specs.Repo.{trees_in_bytes}
-use Rattle.svn_report.specs.Report.{texts_from}
+use Rattle.live_history.specs.Answering.{texts_from}
 use Rattle.live_history.specs.Stream.{AreTaken, Stream}
 use Rattle.live_history.specs.Talk.{IsTalk, TalkState, after_turns}
 use Rattle.live_history.specs.TalkEnd.{AreAllReplied, IsOutputKept}

@@ -1,13 +1,23 @@
 -- What is said in a talk about a dump that grows: for each turn a reply, which ends with an empty line.
-use Rattle.std.specs.Prelude.{◌≡◌, ℕ, ◌+◌, ◌-◌, List, [], ◌∷◌, ◌++◌, None, bytes_eq, codes, decimal, fold, length}
+use Rattle.std.specs.Prelude.{◌≡◌, ℕ, ◌+◌, ◌-◌, List, [], ◌∷◌, ◌++◌, None, Some, bytes_eq, codes, decimal, fold, length}
 use Rattle.svn_text.specs.Line.{line_text}
 use Rattle.svn_dump.specs.DumpText.{IsDumpText}
 use Rattle.svn_dump.specs.Fault.{first_fault}
 use Rattle.svn_dump.specs.Record.{HistoryOfBytes}
 use Rattle.svn_dump.specs.Tree.{trees_of}
-use Rattle.query_answer.specs.Answer.{answer_of, answer_text}
+use Rattle.branch_answer.specs.Question.{question_of}
+use Rattle.branch_answer.specs.QuestionAnswer.{question_answer}
+use Rattle.query_answer.specs.Answer.{Answer, TreesOfBytes, answer_of, answer_text}
 use Rattle.query_answer.specs.Query.{query_of}
 use Rattle.live_history.specs.Turn.{Turn, piece, query}
+
+-- the answer to a question about branches; or to a query, as a report has it
+abbrev pub line_answer : HistoryOfBytes → TreesOfBytes → List ℕ → Answer
+line_answer history trees line =
+    elim (question_of line) [
+      | None ↦ answer_of history trees (query_of line)
+      | Some question ↦ question_answer trees question
+    ]
 
 -- the bytes are a dump of this history, which is lawful
 pub record IsLawfulDump (bytes : List ℕ) (history : HistoryOfBytes) : Type 0 where
@@ -27,10 +37,9 @@ start_of dump = record { dump = dump; answered = 0 }
 abbrev pub ready_text : HistoryOfBytes → List ℕ
 ready_text history = line_text (codes "ready " ++ decimal (length history - 1)) ++ line_text []
 
--- the answer as a report has it, with its number in the talk, and an empty line
+-- the answer to the line, with its number in the talk, and an empty line
 abbrev pub query_text : HistoryOfBytes → ℕ → List ℕ → List ℕ
-query_text history number line =
-    line_text (answer_text number (answer_of history (trees_of bytes_eq history) (query_of line)))
+query_text history number line = line_text (answer_text number (line_answer history (trees_of bytes_eq history) line))
 
 -- what is said for a turn
 abbrev pub IsReply : TalkState → Turn → List ℕ → Type 0

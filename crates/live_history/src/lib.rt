@@ -6,10 +6,11 @@
 //! talk(rt, alloc, &mut dump, workers, &mut client)
 //! ```
 //!
-//! A client behind two devices is `Connection::new(input, output)`. A turn is a query line, or a line `piece BYTES` with
-//! as many further bytes of the dump.
+//! A client behind two devices is `Connection::new(input, output)`. A turn is a query line, or a question line of
+//! `branch_answer`, or a line `piece BYTES` with as many further bytes of the dump.
 #![tactic(auto)]
 
+mod answering;
 mod client;
 mod connection;
 mod feeding;

@@ -16,6 +16,7 @@ ghost use Rattle.live_history.specs.Turns.{HasQuery};
 ghost use Rattle.live_history.specs.Waiting.{IsCaughtUp};
 ghost use Rattle.live_history.specs.declared.talk_error.TalkError.TheVariants.{Run};
 
+use crate::answering::Batch;
 use crate::client::Client;
 use crate::read_ahead::ReadAhead;
 use crate::talk_error::TalkError;
@@ -25,7 +26,6 @@ use query_pool::Workers;
 use std::alloc::{AllocError, Global};
 use std::sync::Wait;
 use std::thread::Threads;
-use svn_report::answer_batch;
 use value_memo::Memo;
 
 /// How many queries are answered at a time for each worker, if so many are there.
@@ -143,7 +143,14 @@ fn reply_text<'r, R: Threads + Wait + Sync>(
     requires numbered { answered + length lines.now < 2 ^ 32 }
     ensures { IfOk result (λ text. text.items ≡ replies repo.now answered (lent_lines lines.now)) }
 {
-    let texts = answer_batch(rt, alloc, repo, memo, answered, lines, workers.count)?;
+    let batch = Batch {
+        alloc,
+        repo,
+        memo,
+        first: answered,
+        lines,
+    };
+    let texts = batch.answers(rt, workers)?;
     with_empty_lines(alloc, texts.as_slice())
 }
 

@@ -6,4 +6,6 @@ mod ends;
 #[cfg(test)]
 mod host;
 #[cfg(test)]
+mod questions;
+#[cfg(test)]
 mod talks;

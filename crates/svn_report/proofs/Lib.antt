@@ -10,4 +10,4 @@ mod LoadErrors
 mod QueryLines
 mod RecordEnds
 mod Reports
-mod SharedRepos
+pub mod SharedRepos

@@ -1,0 +1,15 @@
+mod Asked
+mod Begun
+mod CameBy
+mod Children
+mod EachOnce
+mod FirstPaths
+mod Halves
+mod LifeMade
+mod LivesFound
+mod LivesTold
+mod Livings
+mod Moved
+mod Origins
+mod Refusals
+mod Revisions

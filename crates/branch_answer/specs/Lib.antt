@@ -1,0 +1,9 @@
+pub mod KeptChildren
+pub mod KeptLife
+pub mod Life
+pub mod Listing
+pub mod Moves
+pub mod Presence
+pub mod Question
+pub mod QuestionAnswer
+pub mod Told

@@ -1,0 +1,75 @@
+-- The answer to a question on a history in bytes, of the same form as that to a query.
+use Rattle.std.specs.Prelude.{ℕ, ◌+◌, ◌++◌, nat_le, List, [], ◌∷◌, Option, Some, None, bytes_eq, codes, flat_map, is_some, length, if◌then◌else◌}
+use Rattle.block_map.specs.Standing.{Standing, standing_at}
+use Rattle.svn_text.specs.Line.{line_text}
+use Rattle.svn_dump.specs.Dump.{DumpValue}
+use Rattle.svn_dump.specs.Tree.{tree_of}
+use Rattle.query_answer.specs.Answer.{Answer, TreesOfBytes, answer_head, if_peg_exists, ok_answer, refused_answer}
+use Rattle.query_answer.specs.Peg.{Peg}
+use Rattle.query_answer.specs.Repo.{trees_in_bytes}
+use Rattle.query_answer.specs.declared.status.Status.{Status}
+use Rattle.query_answer.specs.declared.status.Status.TheVariants as status
+use Rattle.branch_answer.specs.Life.{Life, lives_lines, lives_of}
+use Rattle.branch_answer.specs.Listing.{kind_text, list_lines}
+use Rattle.branch_answer.specs.Question as question
+use Rattle.branch_answer.specs.Question.{Question}
+
+-- ---- `entry`
+
+-- the kind, and whether the path has mergeinfo of its own
+abbrev pub entry_line : Standing (List ℕ) → List ℕ
+entry_line standing = kind_text standing.kind ++ (if is_some standing.mergeinfo then codes " mergeinfo" else [])
+
+abbrev pub entry_lines : Option (Standing (List ℕ)) → List (List ℕ)
+entry_lines None = []
+entry_lines (Some standing) = entry_line standing ∷ []
+
+abbrev pub entry_answer : TreesOfBytes → Peg → Answer
+entry_answer trees peg =
+    if_peg_exists trees peg (ok_answer (entry_lines (standing_at bytes_eq (tree_of trees peg.rev) peg.path)))
+
+-- ---- `list`
+
+abbrev pub list_answer : TreesOfBytes → Peg → Answer
+list_answer trees peg = if_peg_exists trees peg (ok_answer (list_lines (tree_of trees peg.rev) peg.path))
+
+-- ---- `lives`
+
+-- some revision up to the peg's has to have the path
+abbrev pub if_some_life : List Life → Answer
+if_some_life [] = refused_answer status.NoSuchPath
+if_some_life (life ∷ lives) = ok_answer (lives_lines (life ∷ lives))
+
+abbrev pub lives_answer : TreesOfBytes → Peg → Answer
+lives_answer trees peg =
+    if nat_le (length trees) peg.rev then refused_answer status.NoSuchRevision
+    else if_some_life (lives_of trees peg.path peg.rev)
+
+-- ---- the answer
+
+-- the answer to a question, given the trees of all revisions
+unfoldable pub question_answer : TreesOfBytes → Question → Answer
+question_answer trees question.bad = refused_answer status.BadQuery
+question_answer trees (question.entry peg) = entry_answer trees peg
+question_answer trees (question.list peg) = list_answer trees peg
+question_answer trees (question.lives peg) = lives_answer trees peg
+
+abbrev pub question_answer_in : DumpValue → Question → Answer
+question_answer_in dump question = question_answer (trees_in_bytes dump) question
+
+-- ---- what is kept of an answer
+
+-- the status, and the text of the result lines
+pub record AnswerValue : Type 0 where
+  pub status : Status
+  pub text : List ℕ
+
+abbrev pub lines_text : List (List ℕ) → List ℕ
+lines_text lines = flat_map line_text lines
+
+abbrev pub kept_answer : Answer → AnswerValue
+kept_answer answer = record { status = answer.status; text = lines_text answer.lines }
+
+-- the whole text of the answer to the question of this place in a list
+abbrev pub kept_text_at : ℕ → AnswerValue → List ℕ
+kept_text_at place answer = answer_head (place + 1) answer.status ++ answer.text

@@ -1,0 +1,23 @@
+//! Questions about branches, and their answers: what stands at a path and below it, and what became of it.
+//!
+//! A line that begins with `ask` is a question. It is answered on a repository, and its answer is written with its place
+//! among the lines, in the form of the answer to a query:
+//!
+//! ```
+//! if let Some(question) = Question::read(line.as_bytes()) {
+//!     let answer = answer_question(alloc, repo, &question)?;
+//!     let written = answer.write(place, out);
+//! }
+//! ```
+#![tactic(auto)]
+
+mod answer;
+mod kind;
+mod life;
+mod moves;
+mod question;
+mod questions;
+
+pub use answer::Answer;
+pub use question::Question;
+pub use questions::answer_question;
