@@ -583,6 +583,96 @@ def answer_of(history: History, line: bytes) -> Lines:
     return [b"ok"] + (lines_in(lines, *bounds) if bounds else lines)
 
 
+# Questions
+
+
+def kind_of(entry: Entry) -> bytes:
+    """The kind of an entry of a tree, which always has one."""
+    assert entry.kind is not None
+    return entry.kind
+
+
+def entry_lines(history: History, peg: Place) -> Lines:
+    """The kind of a path, and whether it has mergeinfo of its own."""
+    entry = history.trees[peg.revision][peg.path]
+    return [kind_of(entry) + (b"" if entry.mergeinfo is None else b" mergeinfo")]
+
+
+def list_lines(history: History, peg: Place) -> Lines:
+    """The kind and the name of each entry directly below a path, in the order of the bytes of the names."""
+    tree = history.trees[peg.revision]
+    below = {path[-1]: entry for path, entry in tree.items() if path and path[:-1] == peg.path}
+    return [kind_of(below[name]) + b" " + name for name in sorted(below)]
+
+
+def lives(trees: list[Tree], path: Path) -> list[Bounds]:
+    """The first and the last revision of each life of a path in some trees, the oldest life first."""
+    found: list[Bounds] = []
+    for rev, tree in enumerate(trees):
+        if path in tree:
+            goes_on = tree[path].origin == Place(path, rev - 1)
+            first = found.pop()[0] if goes_on else rev
+            found.append((first, rev))
+    return found
+
+
+def end_lines(tree: Tree, end: Place) -> Lines:
+    """Where a path went after the last revision of a life: the first path that came from there, by the tree of the next
+    revision, if that lacks the path itself."""
+    came = sorted(printed(path) for path, entry in tree.items() if entry.origin == end)
+    return [b"to %d %s" % (end.revision + 1, path) for path in came[:1] if end.path not in tree]
+
+
+def life_lines(trees: list[Tree], path: Path, life: Bounds) -> Lines:
+    """The revisions of a life and its kind, what it was copied from, and where it went."""
+    first, last = life
+    entry = trees[first][path]
+    lines = [b"%d-%d %s" % (first, last, kind_of(entry))]
+    if entry.origin is not None:
+        lines.append(b"from %d %s" % (entry.origin.revision, printed(entry.origin.path)))
+    return lines + (end_lines(trees[last + 1], Place(path, last)) if last + 1 < len(trees) else [])
+
+
+def lives_lines(history: History, peg: Place) -> Lines:
+    """The lives of a path up to its peg revision, the newest first."""
+    trees = history.trees[: peg.revision + 1]
+    return [line for life in reversed(lives(trees, peg.path)) for line in life_lines(trees, peg.path, life)]
+
+
+QUESTIONS: dict[bytes, Callable[[History, Place], Lines]] = {
+    b"entry": entry_lines,
+    b"list": list_lines,
+    b"lives": lives_lines,
+}
+
+
+def question_of(fields: Lines) -> tuple[bytes, Place]:
+    """The verb of a question and its peg, of the fields after the first one."""
+    if len(fields) != 2 or fields[0] not in QUESTIONS:
+        raise Malformed
+    return fields[0], peg_of(fields[1])
+
+
+def answer_of_question(history: History, fields: Lines) -> Lines:
+    """The status, and the result lines, of the fields after the first one."""
+    try:
+        verb, peg = question_of(fields)
+    except Malformed:
+        return [b"bad-query"]
+    if peg.revision >= len(history.trees):
+        return [b"no-such-revision"]
+    first = 0 if verb == b"lives" else peg.revision
+    if not any(peg.path in tree for tree in history.trees[first : peg.revision + 1]):
+        return [b"no-such-path"]
+    return [b"ok"] + QUESTIONS[verb](history, peg)
+
+
+def answer_in_talk(history: History, line: bytes) -> Lines:
+    """The answer to a line of a talk, which is a question or a query."""
+    name, *fields = line.split(b"\t")
+    return answer_of_question(history, fields) if name == b"ask" else answer_of(history, line)
+
+
 # Input
 
 

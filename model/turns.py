@@ -1,7 +1,7 @@
 """A literal reading of a talk: the turns in its input, what is said for each of them, and how the talk ends.
 
-A turn is a query on a line of its own, or a line `piece BYTES` and so many further bytes of the dump. As the rest of
-the model this was written from the documentation alone.
+A turn is a query or a question on a line of its own, or a line `piece BYTES` and so many further bytes of the dump. As
+the rest of the model this was written from the documentation alone.
 """
 from __future__ import annotations
 
@@ -33,7 +33,7 @@ class Talk(NamedTuple):
 
 
 def piece_size(line: bytes) -> int | None:
-    """Return how many bytes of a piece follow a line, or None if it is a query."""
+    """Return how many bytes of a piece follow a line, or None if it is a query or a question."""
     word, space, digits = line.partition(b" ")
     return definitions.number_of(digits, definitions.GREATEST_LENGTH) if word + space == b"piece " else None
 
@@ -76,7 +76,7 @@ def replies(dump: bytes, given: bytes) -> Iterator[Said]:
         size = piece_size(line)
         if size is None:
             count += 1
-            answer = definitions.answer_of(history, line)
+            answer = definitions.answer_in_talk(history, line)
             yield Said(at, definitions.report_of([answer], count) + b"\n")
         else:
             piece = given[at : at + size]
