@@ -9,11 +9,20 @@ any.
 from __future__ import annotations
 
 import random
+from typing import NamedTuple
 
 from model import odd_parts as odd
 from model import ranges
 from model.definitions import Path
 from model.drafts import Draft, changed
+
+
+class Parts(NamedTuple):
+    """The queries of a bundle, its dump, and the draft of its history."""
+
+    queries: list[bytes]
+    dump: bytes
+    draft: Draft
 
 
 def peg_of(draft: Draft, path: Path, rev: int) -> bytes:
@@ -72,9 +81,11 @@ def query(draft: Draft) -> bytes:
     return changed(lot, line).replace(b"\n", b"\r") if draft.chance(0.03) else line
 
 
-def parts_of(lot: random.Random, seed: int) -> tuple[list[bytes], bytes]:
-    """Queries, and the dump of a history."""
+def parts_of(lot: random.Random, seed: int, has_moves: bool = False) -> Parts:
+    """Queries, and the dump of a history, which may have more moves than that of a bundle."""
     draft = Draft(lot)
+    if has_moves:
+        draft.have_moves()
     youngest = lot.randint(0, 12) if draft.chance(0.1) else lot.randint(4, 12)
     faulty = lot.randint(1, max(youngest, 1)) if draft.chance(0.1) else None
     for rev in range(1, youngest + 1):
@@ -89,12 +100,12 @@ def parts_of(lot: random.Random, seed: int) -> tuple[list[bytes], bytes]:
             dump = changed(lot, dump)
     if draft.chance(0.01):
         dump = dump[: lot.randrange(len(dump))]
-    return queries, dump
+    return Parts(queries, dump, draft)
 
 
 def bundle_of(seed: int) -> bytes:
     lot = random.Random(seed)
-    queries, dump = parts_of(lot, seed)
+    queries, dump, _ = parts_of(lot, seed)
     head = lot.choice(odd.HEADS) if lot.random() < 0.005 else b"%d %d %%d" % (lot.randint(0, 5), lot.randint(1, 4))
     lines = [head % len(queries) if b"%" in head else head, *queries]
     return b"".join(line + b"\n" for line in lines) + dump

@@ -6,7 +6,7 @@ or deltas that do not fit; in some a block or a few bytes of the dump are change
 from __future__ import annotations
 
 import random
-from collections.abc import Iterable
+from collections.abc import Callable, Iterable
 from dataclasses import dataclass
 
 from dev.dumps import END, MERGEINFO
@@ -16,6 +16,8 @@ from model.odd_parts import PROP_DELTA, TEXT_DELTA
 
 # The kind of each path of a revision.
 Tree = dict[Path, bytes]
+# How many paths a copy may leave in a tree.
+MOST_PATHS = 50
 
 
 @dataclass
@@ -56,6 +58,8 @@ class Draft:
         self.merges: list[tuple[Path, Path, int]] = []
         # The share of the queries that have a source and a target.
         self.pairs = lot.choice((0.3, 0.3, 0.3, 0.8))
+        # What a revision after the first may do, and how often.
+        self.steps: dict[Callable[[], None], int] = {self.add: 6, self.replace: 2, self.change: 4, self.delete: 1}
         self.draw_format()
         if self.chance(0.5):
             self.block([b"UUID: 0"])
@@ -219,6 +223,10 @@ class Draft:
         """A path of any revision."""
         return self.some_path(self.lot.choice(self.trees))
 
+    def all_paths(self) -> list[Path]:
+        """The paths of all revisions, each once."""
+        return sorted(set().union(*self.trees))
+
     def new_path(self) -> Path | None:
         """A path that is not in the tree but in one of its directories, often one of an earlier tree; or None."""
         tree = self.trees[-1]
@@ -285,6 +293,19 @@ class Draft:
     def clear(self, path: Path) -> None:
         self.trees[-1] = {each: kind for each, kind in self.trees[-1].items() if not is_below(each, path)}
 
+    def copied(self, path: Path, source: Place) -> Tree:
+        """Return what a copy of a path of an earlier revision makes of a path."""
+        top, rev = source
+        return {path + each[len(top) :]: kind for each, kind in self.trees[rev].items() if is_below(each, top)}
+
+    def copy(self, action: bytes, path: Path, source: Place) -> None:
+        """Copy a path of an earlier revision where that leaves the tree small."""
+        copied = self.copied(path, source)
+        if len(copied) + len(self.trees[-1]) <= MOST_PATHS:
+            self.clear(path)
+            self.trees[-1].update(copied)
+            self.record(action, path, self.lot.choice((None, copied[path])), source)
+
     def put(self, action: bytes, path: Path | None) -> None:
         """Add or replaces a path, mostly as a copy where that leaves the tree small."""
         if path is None:
@@ -295,10 +316,9 @@ class Draft:
         source = self.some_source()
         if self.chance(0.1) and path[:-1] in self.trees[-2]:
             source = Place(path[:-1], len(self.trees) - 2)
-        top, rev = source
-        copied = {path + each[len(top) :]: kind for each, kind in self.trees[rev].items() if is_below(each, top)}
+        copied = self.copied(path, source)
         self.clear(path)
-        if self.chance(0.45) or len(copied) + len(self.trees[-1]) > 50:
+        if self.chance(0.45) or len(copied) + len(self.trees[-1]) > MOST_PATHS:
             kind = self.lot.choice((b"dir", b"dir", b"file"))
             self.trees[-1][path] = kind
             self.record(action, path, kind)
@@ -316,11 +336,42 @@ class Draft:
         path = () if self.chance(0.1) else self.some_path(self.trees[-1])
         self.record(b"change", path, self.lot.choice((None, self.trees[-1][path])))
 
+    def remove(self, path: Path) -> None:
+        self.clear(path)
+        self.record(b"delete", path)
+
     def delete(self) -> None:
         path = self.old_path()
         if path is not None:
-            self.clear(path)
-            self.record(b"delete", path)
+            self.remove(path)
+
+    def move(self) -> None:
+        """Move what a path was in the revision before, rarely to two paths. Sometimes the path is made anew."""
+        path, rev = self.old_path(), len(self.trees) - 2
+        if path is None or path not in self.trees[rev]:
+            return
+        is_removed_first = self.chance(0.5)
+        if is_removed_first:
+            self.remove(path)
+        for _ in range(self.lot.choice((1, 1, 1, 2, 3))):
+            new = self.new_path()
+            if new is not None and not is_below(new, path):
+                self.copy(b"add", new, Place(path, rev))
+        if not is_removed_first:
+            self.remove(path)
+        if self.chance(0.15):
+            self.put(b"add", path)
+
+    def restore(self) -> None:
+        """Copy a path onto itself, mostly from the revision before."""
+        path = self.old_path()
+        revs = self.revisions_with(path, 0)[:-1] if path else []
+        if path and revs:
+            self.copy(b"replace", path, Place(path, revs[-1] if self.chance(0.7) else self.lot.choice(revs)))
+
+    def have_moves(self) -> None:
+        """From now on, revisions may move paths and copy them onto themselves, and delete more."""
+        self.steps.update({self.delete: 2, self.move: 3, self.restore: 2})
 
     def faulty(self) -> None:
         """A record with a fault, which leaves the tree as it is."""
@@ -350,7 +401,7 @@ class Draft:
             steps = [self.add] * lot.randint(2, 5)
         else:
             count = lot.choice((0, 1, 1, 2, 2, 3, 4))
-            steps = lot.choices((self.add, self.replace, self.change, self.delete), (6, 2, 4, 1), k=count)
+            steps = lot.choices(list(self.steps), list(self.steps.values()), k=count)
         if is_faulty:
             steps.insert(lot.randrange(len(steps) + 1), self.faulty)
         for step in steps:

@@ -1,10 +1,10 @@
-"""Draws talks at random: a dump, and an input with queries and with further pieces of that dump.
+"""Draws talks at random: a dump, and an input with queries, questions and further pieces of that dump.
 
-`talk_of` gives the same talk for the same seed. The history is that of the bundle with this seed (`bundles.py`). Its
-dump is cut at ends of blocks: what is before the first cut is the dump of the talk, and the rest comes in pieces, with
-queries before, between and after them. Most talks go on to the end of their input. In some the dump is cut within a
-block, a piece has another byte, is left out or comes twice, the line before it has another number, or the input ends
-early.
+`talk_of` gives the same talk for the same seed. The history and the queries are drawn as those of a bundle
+(`bundles.py`), but there are more moves. The dump is cut at ends of blocks: what is before the first cut is the dump of
+the talk, and the rest comes in pieces, with queries and questions before, between and after them. Most talks go on to
+the end of their input. In some the dump is cut within a block, a piece has another byte, is left out or comes twice,
+the line before it has another number, or the input ends early.
 """
 from __future__ import annotations
 
@@ -18,9 +18,13 @@ from typing import NamedTuple, Optional
 from dev import pieces
 from model import bundles, definitions, drafts
 from model import odd_parts as odd
+from model.bundles import Parts
 from model.definitions import Block
+from model.drafts import Draft
 
 PEG = re.compile(rb"@([0-9]{1,9})(?![^\t])")
+# The verbs of questions, and how often of a hundred each is drawn.
+QUESTIONS = {b"lives": 50, b"list": 25, b"entry": 25}
 
 
 # fmt: off
@@ -164,15 +168,39 @@ CHANGES: dict[Optional[Callable[[random.Random, list[Part]], None]], int] = {
 # Turns
 
 
-def drawn_line(lot: random.Random, queries: list[bytes], youngest: int) -> bytes:
-    """A query, mostly one about revisions that exist, or a line that is nearly one before a piece."""
+def drawn_peg(lot: random.Random, draft: Draft, youngest: int) -> bytes:
+    """A path of any revision, often one that a record names, or one near it, or the root; in any revision, mostly in
+    one that has the path or in the youngest one."""
+    path = lot.choice(draft.all_paths())
+    if draft.named and lot.random() < 0.4:
+        path = lot.choice(draft.named).path
+    path = lot.choices((path, path[:-1], path + (lot.choice(draft.names),), ()), (80, 10, 5, 5))[0]
+    revs = [rev for rev in draft.revisions_with(path, 0) if rev <= youngest] or [youngest]
+    rev = lot.choice((youngest, youngest, lot.randint(0, youngest), lot.choice(revs), lot.choice(revs)))
+    return draft.spelled(path) + b"@%d" % (rev if lot.random() < 0.96 else youngest + 1)
+
+
+def drawn_question(lot: random.Random, draft: Draft, youngest: int) -> bytes:
+    """A question, or a line that is nearly one."""
+    if lot.random() < 0.08:
+        return lot.choice(odd.QUESTIONS)
+    verb = lot.choices(list(QUESTIONS), list(QUESTIONS.values()))[0]
+    line = b"ask\t" + verb + b"\t" + drawn_peg(lot, draft, youngest)
+    return drafts.changed(lot, line).replace(b"\n", b"\r") if lot.random() < 0.03 else line
+
+
+def drawn_line(lot: random.Random, bundle: Parts, youngest: int) -> bytes:
+    """A question, a query, mostly one about revisions that exist, or a line that is nearly one before a piece."""
     if lot.random() < 0.05:
         return lot.choice(NEAR_PIECES)
+    if lot.random() < 0.5:
+        return drawn_question(lot, bundle.draft, youngest)
+    queries = bundle.queries
     fitting = [line for line in queries if max(map(int, PEG.findall(line)), default=youngest + 1) <= youngest]
     return lot.choice(fitting if fitting and lot.random() < 0.9 else queries)
 
 
-def drawn_lines(lot: random.Random, queries: list[bytes], asked: list[bytes], youngest: int, last: bool) -> list[bytes]:
+def drawn_lines(lot: random.Random, bundle: Parts, asked: list[bytes], youngest: int, last: bool) -> list[bytes]:
     """Lines after a part of the dump, or after the last one, some of which were asked before."""
     few = (0, 5, 10, 20) if last else (0, 0, 1, 1, 2, 3, 5, 8, 12)
     found: list[bytes] = []
@@ -180,7 +208,7 @@ def drawn_lines(lot: random.Random, queries: list[bytes], asked: list[bytes], yo
         if asked + found and lot.random() < 0.3:
             found.append(lot.choice(asked + found))
         else:
-            found.append(drawn_line(lot, queries, youngest))
+            found.append(drawn_line(lot, bundle, youngest))
     return found
 
 
@@ -191,8 +219,8 @@ def piece_turn(lot: random.Random, part: Part) -> bytes:
     return b"piece %s%d\n" % (b"0" * zeros, size) + part.text
 
 
-def input_of(lot: random.Random, queries: list[bytes], parts: list[Part]) -> bytes:
-    """The pieces after the first part, with queries before, between and after them."""
+def input_of(lot: random.Random, bundle: Parts, parts: list[Part]) -> bytes:
+    """The pieces after the first part, with queries and questions before, between and after them."""
     given = b""
     asked: list[bytes] = []
     for number, part in enumerate(parts):
@@ -200,7 +228,7 @@ def input_of(lot: random.Random, queries: list[bytes], parts: list[Part]) -> byt
             given += piece_turn(lot, part)
         if part.is_cut:
             break
-        lines = drawn_lines(lot, queries, asked, part.youngest, number == len(parts) - 1)
+        lines = drawn_lines(lot, bundle, asked, part.youngest, number == len(parts) - 1)
         given += b"".join(line + b"\n" for line in lines)
         asked += lines
     return given
@@ -208,7 +236,8 @@ def input_of(lot: random.Random, queries: list[bytes], parts: list[Part]) -> byt
 
 def talk_of(seed: int) -> DrawnTalk:
     lot = random.Random("talk of %d" % seed)
-    queries, dump = bundles.parts_of(random.Random(seed), seed)
+    bundle = bundles.parts_of(random.Random(seed), seed, has_moves=True)
+    dump = bundle.dump
     if lot.random() < 0.08:
         # So it is longer than one read of the program.
         dump, _ = pieces.moved(lot, dump)
@@ -216,7 +245,7 @@ def talk_of(seed: int) -> DrawnTalk:
     parts = parts_of(lot, dump)
     if change:
         change(lot, parts)
-    given = input_of(lot, queries, parts)
+    given = input_of(lot, bundle, parts)
     if given and lot.random() < 0.08:
         given = given[: lot.randrange(len(given))]
     return DrawnTalk(parts[0].text, lot.choice((1, 1, 2, 2, 3, 4, 8, 64)), given)

@@ -62,6 +62,20 @@ QUERIES = [b"", b"\t", b"locate", b"log\t", b"log\ta", b"log\ta@", b"log\ta@1\t"
            b"eligible\t\t@1\t@1", b"eligibl\t@1\t@1", b"merged\t@1\t@1\r", b"eligible\t@2147483647\t@1",
            b"merged\t@1\t@2147483647", b"eligible\t" + b"a/" * 1500 + b"@1\t@0", b"merged\t@01\t@001",
            b"merged\t@1\t" + b"/a" * 1500 + b"@1"]
+# Lines that are no questions, most of them nearly, and a few questions about odd pegs.
+QUESTIONS = [b"ask", b"ask\t", b"ask\t\t", b"ask\tlives", b"ask\tlist\t", b"ask\tentry\ta", b"ask\tlives\ta@",
+             b"ask\tlives\ta@1\t", b"ask\tlives\ta@1\t1", b"ask\tlist\t@1\t@1", b"ask\tlives\t@1\t0:1",
+             b"ask\t\tlives\t@1", b"ask\tlives\t\t@1", b"\task\tlist\t@1", b"ask\tlist\ta/../b@1", b"ask\tlives\t.@1",
+             b"ask\tentry\t/./@0", b"ask\tentry\ta/.@2147483647", b"ask\tblame\ta@1", b"ask\tlog\t@1",
+             b"ask\tsegments\t@1", b"ask\tlocate\t@1\t1", b"ask\task\t@1", b"ask\tLives\t@1", b"ask\tlive\t@1",
+             b"ask\tlivess\t@1", b"ask\tentry \t@1", b"ask\t entry\t@1", b"ask\tlist\t@1\r", b"ask\tlist\t@ 1",
+             b"ask\tlist\t@-1", b"ask\tlist\t@+1", b"ask\tlist\t@HEAD", b"ask\tlives\t@2147483648", b"ask lives\t@1",
+             b"ask\tlives @1", b"ask \tlives\t@1", b" ask\tlives\t@1", b"ask\r\tlives\t@1", b"asking\tlives\t@1",
+             b"as\tlives\t@1", b"Ask\tlives\t@1", b"ASK\tlives\t@1", b"ask\x00\tlives\t@1", b"entry\t@1", b"list\t@1",
+             b"lives\t@1", b"ask\tlives\t@4294967297", b"ask\tlist\t@" + b"0" * 5000 + b"x",
+             b"ask\tlives\t@" + b"0" * 5000 + b"1", b"ask\tlist\t@0001", b"ask\tentry\t//@1",
+             b"ask\tlives\t@2147483647", b"ask\tlist\t@0", b"ask\tlives\t" + b"a/" * 1500 + b"@1",
+             b"ask\tentry\t" + b"/" * 1500 + b"@01"]
 FIELDS = [b"", b"1", b"a", b"a@", b"@", b"@x", b"a@-1", b"a@ 1", b"@1 ", b"@1\r", b"@HEAD", b"a@2147483648",
           b"./a@1", b"a/../b@0", b"..@1", b"a/.@2147483647"]
 FORMATS = [b"", b"0", b"1", b"4", b"02", b"03", b"2 ", b"3 ", b"3\r", b" 3", b"23", b"33", b"2\n3"]

@@ -27,6 +27,8 @@ from model.turns import Talk
 WAYS = {"at once": 15, "turn by turn": 35, "byte by byte": 5, "cut": 15, "cut, with waits": 30}
 REASON = re.compile(r"dump refused: ([0-9]+ [A-Za-z]+) at (?:byte|record) [0-9]+")
 STATUS = re.compile(rb"#[0-9]+ (\S+)\n")
+# A life, from where it was copied, and where it went.
+LIFE = re.compile(rb"^[0-9]+-[0-9]+ (?:file|dir)\n(from .*\n)?(to .*\n)?", re.MULTILINE)
 # How most talks end.
 WHOLE = "talk to the end of the input"
 
@@ -96,7 +98,7 @@ def ending_of(talk: Talk) -> str:
 
 
 def counted(way: str, talk: Talk) -> Iterator[Counted]:
-    """The ending of a talk, the way in which its input came, its pieces and its answers."""
+    """The ending of a talk, the way in which its input came, its pieces, its answers and the lives in them."""
     yield RUNS, ending_of(talk)
     yield "(ways in which the input came)", way
     if talk.said:
@@ -106,6 +108,8 @@ def counted(way: str, talk: Talk) -> Iterator[Counted]:
         status = STATUS.match(each.text)
         if status:
             yield "(answers)", status[1].decode()
+        for begin, end in LIFE.findall(each.text):
+            yield "(lives)", ("copied" if begin else "new") + (", and went on elsewhere" if end else "")
 
 
 def judge(program: Path, folder: Path, seed: int) -> Found:
