@@ -20,8 +20,8 @@ from tests.copies import copied_tree, make_command
 
 # fmt: off
 PAGES = [
-    "README.md", "docs/recipes.md", "docs/queries.md", "docs/dump-format.md", "docs/svnask.md", "docs/svnhist.1",
-    "docs/svnhist-live.1", "docs/svnask.1",
+    "README.md", "docs/recipes.md", "docs/queries.md", "docs/questions.md", "docs/dump-format.md", "docs/svnask.md",
+    "docs/svnhist.1", "docs/svnhist-live.1", "docs/svnask.1",
 ]
 # fmt: on
 CONSOLE = re.compile(r"^```console\n(.*?)^```$", re.MULTILINE | re.DOTALL)
