@@ -371,6 +371,8 @@ class Draft:
 
     def have_moves(self) -> None:
         """From now on, revisions may move paths and copy them onto themselves, and delete more."""
+        if self.chance(0.4):
+            self.names = odd.CLOSE_NAMES
         self.steps.update({self.delete: 2, self.move: 3, self.restore: 2})
 
     def faulty(self) -> None:

@@ -169,11 +169,11 @@ CHANGES: dict[Optional[Callable[[random.Random, list[Part]], None]], int] = {
 
 
 def drawn_peg(lot: random.Random, draft: Draft, youngest: int) -> bytes:
-    """A path of any revision, often one that a record names, or one near it, or the root; in any revision, mostly in
-    one that has the path or in the youngest one."""
+    """A path of any revision, often one that a record names or copies, or one near it, or the root; in any revision,
+    mostly in one that has the path or in the youngest one."""
     path = lot.choice(draft.all_paths())
     if draft.named and lot.random() < 0.4:
-        path = lot.choice(draft.named).path
+        path = lot.choice([path for path, _ in draft.named] + [source for _, source in draft.copies])
     path = lot.choices((path, path[:-1], path + (lot.choice(draft.names),), ()), (80, 10, 5, 5))[0]
     revs = [rev for rev in draft.revisions_with(path, 0) if rev <= youngest] or [youngest]
     rev = lot.choice((youngest, youngest, lot.randint(0, youngest), lot.choice(revs), lot.choice(revs)))

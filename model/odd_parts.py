@@ -12,6 +12,8 @@ FAMILIES = [
     [b"...", b".a", b"a..", b"-", b"*"],
     [b"\x00", b"\x01", b"r\rn", b"t\tb", b"\\"],
 ]
+# The order of paths with these names depends much on what is compared.
+CLOSE_NAMES = [b"b", b"b-", b"b.c", b"B", b"C"]
 OTHER_NAMES = [b"svn:executable", b"svn:mergeinfo2", b"svn:mergeinf", b"SVN:MERGEINFO", b"", b"a\nb", b"PROPS-END\n"]
 OTHER_VALUES = [b"", b"*", b"/a:1", b"PROPS-END\n", b"K 1\na\nV 1\nb\n", b"\n\nNode-path: a\n\n", b"\x00\xff"]
 MALFORMED = [b"/a", b"/a:0", b"/a:2147483648", b"/a:5-3", b"/a:3-3", b"/a/../b:1", b"./a:1", b"/a:3-5,4*", b"/a:1,",
