@@ -225,7 +225,7 @@ class Draft:
 
     def all_paths(self) -> list[Path]:
         """The paths of all revisions, each once."""
-        return sorted(set().union(*self.trees))
+        return sorted({path for tree in self.trees for path in tree})
 
     def new_path(self) -> Path | None:
         """A path that is not in the tree but in one of its directories, often one of an earlier tree; or None."""

@@ -19,7 +19,7 @@ from dev import pieces
 from model import bundles, definitions, drafts
 from model import odd_parts as odd
 from model.bundles import Parts
-from model.definitions import Block
+from model.definitions import Block, Path
 from model.drafts import Draft
 
 PEG = re.compile(rb"@([0-9]{1,9})(?![^\t])")
@@ -174,7 +174,8 @@ def drawn_peg(lot: random.Random, draft: Draft, youngest: int) -> bytes:
     path = lot.choice(draft.all_paths())
     if draft.named and lot.random() < 0.4:
         path = lot.choice([path for path, _ in draft.named] + [source for _, source in draft.copies])
-    path = lot.choices((path, path[:-1], path + (lot.choice(draft.names),), ()), (80, 10, 5, 5))[0]
+    near: list[Path] = [path, path[:-1], path + (lot.choice(draft.names),), ()]
+    path = lot.choices(near, (80, 10, 5, 5))[0]
     revs = [rev for rev in draft.revisions_with(path, 0) if rev <= youngest] or [youngest]
     rev = lot.choice((youngest, youngest, lot.randint(0, youngest), lot.choice(revs), lot.choice(revs)))
     return draft.spelled(path) + b"@%d" % (rev if lot.random() < 0.96 else youngest + 1)
