@@ -7,6 +7,7 @@ mod FirstPaths
 mod Halves
 mod LifeMade
 mod LivesFound
+mod LivesLaw
 mod LivesTold
 mod Livings
 mod Moved

@@ -1,6 +1,7 @@
 pub mod KeptChildren
 pub mod KeptLife
 pub mod Life
+pub mod LivesLaw
 pub mod Listing
 pub mod Moves
 pub mod Presence

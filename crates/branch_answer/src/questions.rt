@@ -1,5 +1,7 @@
 //! The questions, each in a file of its own.
 ghost use Rattle.std.specs.Prelude.{◌≡◌, [], IfErr, IfOk, OnOk};
+ghost use Rattle.query_answer.specs.Repo.{trees_in_bytes};
+ghost use Rattle.branch_answer.specs.LivesLaw.{HaveLives};
 ghost use Rattle.branch_answer.specs.Question.{question_view};
 ghost use Rattle.branch_answer.specs.QuestionAnswer.{kept_answer, question_answer_in};
 ghost use Rattle.branch_answer.specs.Told.{IsUntold, TellsLines};
@@ -19,8 +21,10 @@ pub fn answer_question(
     repo: &Repo,
     question: &Question<'_>,
 ) -> Result<Answer, AllocError>
-    ensures { IfOk result
+    ensures answer { IfOk result
         (λ answer. answer ≡ kept_answer (question_answer_in repo.now (question_view question.now))) }
+    // The lives of each path share no revision, and are all in which it is there.
+    ensures lives { HaveLives (trees_in_bytes repo.now) }
 {
     let mut text = Vec::new(alloc);
     match append_lines(alloc, repo, question, &mut text) {

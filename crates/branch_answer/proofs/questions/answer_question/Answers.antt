@@ -1,0 +1,11 @@
+use Rattle.branch_answer.proofs.LivesLaw.{HaveLives-dump}
+use Rattle.branch_answer.proofs.questions.answer_question.Goals as goal
+
+pub returns-in-Ok-clause-lives : goal.returns-in-Ok-clause-lives
+returns-in-Ok-clause-lives c = HaveLives-dump c.args.repo.now
+
+pub returns-in-Err-Refused-clause-lives : goal.returns-in-Err-Refused-clause-lives
+returns-in-Err-Refused-clause-lives c = HaveLives-dump c.args.repo.now
+
+pub returns-clause-lives : goal.returns-clause-lives
+returns-clause-lives c = HaveLives-dump c.args.repo.now
