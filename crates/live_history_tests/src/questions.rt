@@ -1,8 +1,13 @@
-//! Talks with questions about branches.
+//! Questions about branches, and talks with them.
 
 use crate::host::Host;
+use branch_answer::{Question, answer_question};
+use query_answer::Repo;
 use sample_dumps::DUMPED;
+use std::alloc::{AllocError, Global};
 use std::test::Fail;
+use svn_dump::read;
+use svn_report::load_repo;
 
 const INPUT: &[u8] = b"ask\tlives\tb@3\nask\tentry\ttrunk/f@1\nask\tlist\t@3\nask\tlives\n";
 
@@ -28,5 +33,32 @@ fn questions_are_replied_to(rt: HostRuntime) -> Result<(), Fail> {
     let (said, ended) = Host::usual().talk(&rt, rt.alloc(), DUMPED, INPUT);
     ended?;
     assert_eq!(rt; said.as_slice(), SAID.as_bytes());
+    Ok(())
+}
+
+fn append_answer(
+    alloc: Global,
+    repo: &Repo,
+    line: &str,
+    place: u32,
+    out: &mut Vec<u8>,
+) -> Result<(), AllocError> {
+    if let Some(question) = Question::read(line.as_bytes()) {
+        let answer = answer_question(alloc, repo, &question)?;
+        let written = answer.write(place, out);
+    }
+    Ok(())
+}
+
+#[test]
+fn an_answer_is_written_with_its_place(rt: HostRuntime) -> Result<(), Fail> {
+    let alloc = rt.alloc();
+    let dump = read(alloc, DUMPED)?;
+    let repo = load_repo(&rt, alloc, dump, &[], 1)?;
+    let mut out = Vec::new(alloc);
+    let appended = append_answer(alloc, &repo, "ask\tlist\ttrunk@1", 6, &mut out);
+    drop(repo);
+    appended?;
+    assert_eq!(rt; out.as_slice(), b"#7 ok\nfile f\n".as_slice());
     Ok(())
 }
