@@ -248,6 +248,28 @@ class Command(base.Case):
         )
         self.assertEqual(lines[4], b"log\ttrunk@3\tr2 /trunk")
 
+    def test_questions_are_answered_beside_queries(self) -> None:
+        queries = self.made("queries", b"ask\tlives\tbranches/one@13\nsegments\tbranches/one@7\nask\tlist\tnone@13\n")
+        self.assertEqual(
+            base.run(DUMP, "ask", queries).output,
+            b"ask\tlives\tbranches/one@13\t3-7 dir\nask\tlives\tbranches/one@13\tfrom 2 /trunk\n"
+            b"segments\tbranches/one@7\t3-7 /branches/one\nsegments\tbranches/one@7\t1-2 /trunk\n"
+            b"ask\tlist\tnone@13\tno-such-path\n",
+        )
+
+    def test_bad_questions_have_a_reason(self) -> None:
+        queries = self.made("queries", b"ask\nask\tblame\ta@1\nask\tlives\ta\nask\tlist\ta@1\t1:2\n")
+        lines = base.run(DUMP, "ask", queries).output.splitlines()
+        self.assertEqual(
+            [line.partition(b"bad-query: ")[2] for line in lines],
+            [
+                b"there is no question ''",
+                b"there is no question 'blame'",
+                b"'a' has no peg revision: 'a@REV'",
+                b"list takes 1 field after it",
+            ],
+        )
+
     def test_a_bad_number_is_named(self) -> None:
         queries = self.made("queries", b"log\ttrunk@r5\nlog\ttrunk@5\t4:2\nlocate\ttrunk@4\tHEAD\n")
         lines = base.run(DUMP, "ask", queries).output.splitlines()

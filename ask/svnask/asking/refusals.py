@@ -2,6 +2,7 @@
 from __future__ import annotations
 
 import re
+from collections.abc import Sequence
 from typing import NamedTuple
 
 from svnask.copy.store import Record
@@ -18,6 +19,8 @@ VERBS = {
     b"merged": (3, 4),
     b"eligible": (3, 4),
 }
+# The verbs of questions, which follow `ask` and have one peg.
+QUESTIONS = {b"entry", b"list", b"lives"}
 
 
 class Shape(NamedTuple):
@@ -98,8 +101,10 @@ def about_record(record: Record) -> str:
 
 
 def bad_query(line: bytes) -> str:
-    """Why a line is no query."""
+    """Why a line is no query, and no question."""
     fields = line.split(b"\t")
+    if fields[0] == b"ask":
+        return bad_question(fields[1:])
     if fields[0] not in VERBS:
         if b"\t" not in line and b" " in line:
             return "the fields are separated by tabs"
@@ -119,6 +124,15 @@ def bad_query(line: bytes) -> str:
     return "'%s' is not a range: LO:HI, two numbers up to 2147483647, of which the first is not above the second" % (
         fields[-1].decode("utf-8", "replace")
     )
+
+
+def bad_question(fields: Sequence[bytes]) -> str:
+    """Return why the fields after `ask` are no question."""
+    if not fields or fields[0] not in QUESTIONS:
+        return "there is no question '%s'" % b"\t".join(fields[:1]).decode("utf-8", "replace")
+    if len(fields) != 2:
+        return "%s takes 1 field after it" % fields[0].decode("ascii")
+    return bad_peg(fields[1]) or "it is no question"
 
 
 def bad_peg(field: bytes) -> str | None:

@@ -14,7 +14,7 @@ from svnask.texts import decoded
 
 class AskVerb(Verb):
     def arguments(self, parser: ArgumentParser) -> None:
-        parser.add_argument("queries", metavar="QUERIES", help="a file of queries as svnhist takes them")
+        parser.add_argument("queries", metavar="QUERIES", help="a file of queries and questions as svnhist takes them")
 
     def answers(self, history: OpenHistory, given: Namespace) -> Iterator[tuple[bytes, Answer]]:
         try:
