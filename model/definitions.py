@@ -617,8 +617,8 @@ def lives(trees: list[Tree], path: Path) -> list[Bounds]:
 
 
 def end_lines(tree: Tree, end: Place) -> Lines:
-    """Where a path went after the last revision of a life: the first path that came from there, by the tree of the next
-    revision, if that lacks the path itself."""
+    """Return where a path went after the last revision of a life: the first path that came from there, by the tree of
+    the next revision, if that lacks the path itself."""
     came = sorted(printed(path) for path, entry in tree.items() if entry.origin == end)
     return [b"to %d %s" % (end.revision + 1, path) for path in came[:1] if end.path not in tree]
 
