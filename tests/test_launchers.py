@@ -508,15 +508,15 @@ class LaterCalls(LauncherTest):
         self.compare("the crates that it alone needs", own, self.tree.started())
         self.compare("its program is run", ["svnhist_live"], self.tree.run())
         self.tree.set_working_toolchain()
-        self.tree.forget_build("live_history")
+        self.tree.forget_build("branch_answer")
         self.works("a changed source of another program", self.svnhist, "")
         self.compare("no build of another program", [], self.tree.started())
         self.works("a changed source of it", self.live, lines_for(own))
 
     def test_of_two_programs_at_once_the_second_waits(self) -> None:
         """And takes what the first built."""
-        own = self.build_both()
         lowest = self.svnhist.lowest
+        own = [crate for crate in self.build_both() if crate in self.live.above(lowest)]
         self.tree.forget_build(lowest)
         first = self.svnhist.start()
         self.tree.wait_for_start()
