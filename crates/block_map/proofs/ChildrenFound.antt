@@ -60,7 +60,7 @@ pub AreOthersAt-kept : (found : NameId → Found NameId ValueId → Type 0) (old
 AreOthersAt-kept found old new base kept others name small = elim (others name small) [ inl among ↦ inl (kept name.0 among) | inr other ↦ inr other ]
 
 -- what is resolved stays
-resolved-again : (lo : ℕ) (each : Found NameId ValueId) → resolved lo (resolved lo each) ≡ resolved lo each
+pub resolved-again : (lo : ℕ) (each : Found NameId ValueId) → resolved lo (resolved lo each) ≡ resolved lo each
 resolved-again zero (at [] tick) = refl
 resolved-again zero (at (c ∷ path) tick) = refl
 resolved-again zero (at_with [] tick mi) = refl

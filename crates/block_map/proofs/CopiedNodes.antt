@@ -1,15 +1,12 @@
 -- Nodes that stand at other locations than those at which they were made.
-use Rattle.block_map.proofs.Common.{◌≡◌, List, [], ◌∷◌, Option, None, Some, IfSome, unwrap_or, refl, ap, ◌∙◌, arith, option_and_then, slice_get, NameId, untouched, At, IsCopiedNode, ExtendsTrie, IsNodeOf, IsSound, LookOfNumbers, TrieValue, child_at, child_of, found_at, found_below, own_found, base_look, Node, Base, NodeId}
-use Rattle.block_map.proofs.GrownTries.{child_of-grown, found_below-grown, found_within-zero, IsNodeOf-child_at}
-
--- a node without children has none at any name
-pub child_of-untouched : (trie : TrieValue) (name : NameId) → child_of trie untouched name ≡ None
-child_of-untouched trie name = ap (option_and_then (λ (id : NodeId). slice_get trie.nodes id.0)) (found_within-zero trie.child_maps 0 name.0)
+use Rattle.block_map.proofs.Common.{◌≡◌, List, [], ◌∷◌, Option, None, Some, IfSome, unwrap_or, refl, ap, ◌∙◌, NameId, untouched, At, IsCopiedNode, ExtendsTrie, IsNodeOf, IsSound, LookOfNumbers, TrieValue, child_at, found_at, found_below, own_found, base_look, Node, Base}
+use Rattle.block_map.proofs.GrownTries.{child_of-grown, found_below-grown, IsNodeOf-child_at}
+use Rattle.block_map.proofs.MergeinfoGiven.{child_of-childless, IsNodeOf-childless}
 
 -- an untouched node makes no difference
 pub child_at-untouched : (trie : TrieValue) (node : Option Node) (over : LookOfNumbers) (name : NameId)
     → child_at trie (record { node = Some (unwrap_or node untouched); base = over }) name ≡ child_at trie (record { node = node; base = over }) name
-child_at-untouched trie None over name = λ i. record { node = child_of-untouched trie name i; base = λ rest. over (name ∷ rest) }
+child_at-untouched trie None over name = λ i. record { node = child_of-childless trie untouched.own untouched.base untouched.may_give_mergeinfo name i; base = λ rest. over (name ∷ rest) }
 child_at-untouched trie (Some node) over name = refl
 
 pub found_at-untouched : (trie : TrieValue) (node : Option Node) (over : LookOfNumbers)
@@ -18,7 +15,7 @@ found_at-untouched trie None over = refl
 found_at-untouched trie (Some node) over = refl
 
 pub IsNodeOf-untouched : (trie : TrieValue) (node : Option Node) → IfSome node (IsNodeOf trie) → IsNodeOf trie (unwrap_or node untouched)
-IsNodeOf-untouched trie None is = (omega arith, tt)
+IsNodeOf-untouched trie None is = IsNodeOf-childless trie untouched.own untouched.base untouched.may_give_mergeinfo tt (λ none. tt)
 IsNodeOf-untouched trie (Some node) is = is
 
 -- on a base with what its own one had, a node shows over any other what it showed there

@@ -1,5 +1,5 @@
 -- What is found below the nodes of a trie stays as nodes, maps and locations are added.
-use Rattle.block_map.proofs.Common.{◌≡◌, ℕ, zero, suc, ◌<◌, ◌≤◌, ◌%◌, ◌/◌, ◌==◌, Bool, true, false, List, [], ◌∷◌, ◌++◌, Option, None, Some, IfSome, length, if◌then◌else◌, refl, sym, ap, subst, ◌∙◌, arith, length-append, append-nil, append_assoc, option_and_then, slice_get, get_or_at, same_Some, slice_get-get_or, NameId, slice_get-front, Extends, AreOrdered, HaveNodesBelow, child_in, found_within, child_map_at, At, HasLocation, ExtendsTrie, IsNodeOf, IsSound, LookOfNumbers, TrieValue, at_path, child_at, child_of, found_at, found_below, own_found, base_look, as_at, Node, Base, NodeId, ChildMap, Leaf, Branch, ChildMapId}
+use Rattle.block_map.proofs.Common.{◌≡◌, ℕ, zero, suc, ◌<◌, ◌≤◌, ◌%◌, ◌/◌, ◌==◌, Bool, true, false, List, [], ◌∷◌, ◌++◌, Option, None, Some, IfSome, length, if◌then◌else◌, refl, sym, ap, subst, ◌∙◌, arith, length-append, append-nil, append_assoc, option_and_then, slice_get, get_or_at, same_Some, slice_get-get_or, NameId, slice_get-front, Extends, AreOrdered, HaveNodesBelow, child_in, found_within, child_map_at, At, HasLocation, ChildGivesNone, ExtendsTrie, GivesNoMergeinfo, IsNodeOf, IsSound, LookOfNumbers, TrieValue, at_path, child_at, child_of, found_at, found_below, own_found, base_look, as_at, Node, Base, NodeId, ChildMap, Leaf, Branch, ChildMapId}
 use Rattle.block_map.specs.declared.trie.node.Base.TheVariants as base
 use Rattle.block_map.proofs.ChildMapSteps.{found_in_map, found_within-suc, found_within-empty}
 
@@ -27,6 +27,14 @@ Extends-again xs ys zs one other = record {
 
 pub ExtendsTrie-none : (trie : TrieValue) → ExtendsTrie trie trie
 ExtendsTrie-none trie = record { nodes = Extends-none trie.nodes; child_maps = Extends-none trie.child_maps; locations = Extends-none trie.locations }
+
+-- a node was added
+pub ExtendsTrie-pushed : (old new : TrieValue) (node : Node) → new ≡ record old { nodes = old.nodes ++ node ∷ [] } → ExtendsTrie old new
+ExtendsTrie-pushed old new node added = subst (ExtendsTrie old) (sym added) (record {
+  nodes = record { more = node ∷ []; grown = refl };
+  child_maps = Extends-none old.child_maps;
+  locations = Extends-none old.locations;
+})
 
 -- ---- maps of children
 
@@ -109,9 +117,20 @@ module _ (old new : TrieValue) (sound : IsSound old) (grown : ExtendsTrie old ne
   base_look-grown base.Nothing over has = refl
   base_look-grown (base.At id) over has = ap as_at (slice_get-grown old.locations new.locations id.0 grown.locations has)
 
+  -- a node that gives no mergeinfo gives none in the grown trie
+  GivesNoMergeinfo-grown : (node : Node) → IsNodeOf old node → GivesNoMergeinfo old node → GivesNoMergeinfo new node
+  GivesNoMergeinfo-grown node is gives = record {
+    own = gives.own;
+    children = λ name. subst ChildGivesNone (sym (child_of-grown node name is)) (gives.children name);
+  }
+
   -- a node of the trie is one of the grown trie
   pub IsNodeOf-grown : (node : Node) → IsNodeOf old node → IsNodeOf new node
-  IsNodeOf-grown node is = (omega (arith, is.0, length-grown old.child_maps new.child_maps grown.child_maps), by node.base is.1)
+  IsNodeOf-grown node is = (
+    omega (arith, is.0, length-grown old.child_maps new.child_maps grown.child_maps),
+    by node.base is.1,
+    λ none. GivesNoMergeinfo-grown node is (is.2 none),
+  )
     where
       by : (within : Base) → HasLocation old within → HasLocation new within
       by base.OfParent has = tt

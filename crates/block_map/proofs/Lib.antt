@@ -11,6 +11,9 @@ pub mod JoinedMaps
 pub mod LocationPaths
 pub mod LooksThrough
 pub mod MapsOfDumps
+pub mod MergeinfoGiven
+pub mod MergeinfoInBlocks
+pub mod MergeinfoLacked
 pub mod NearestFound
 pub mod NodesPut
 pub mod ChildMapLookups
@@ -22,6 +25,7 @@ pub mod RecordNodes
 pub mod Results
 pub mod RevisionEnds
 pub mod RevisionStates
+pub mod SoundTries
 pub mod Sources
 pub mod Standings
 pub mod StoredChildMaps

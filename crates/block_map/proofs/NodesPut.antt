@@ -1,8 +1,10 @@
 -- What is found below a node where another one was put at a path.
-use Rattle.block_map.proofs.Common.{◌≡◌, ◌==◌, true, false, List, [], ◌∷◌, ◌++◌, Option, None, Some, IfSome, length, if◌then◌else◌, inl, inr, refl, sym, ap, subst, ◌∙◌, option_and_then, slice_get, cases_Bool, ValueId, below, same_name, NameId, IsSame-same_name, Found, untouched, Extends, SetsChild, child_in, At, ExtendsTrie, IsNodeOf, IsSound, LookOfNumbers, PutsNode, TrieValue, at_path, child_at, child_of, found_below, own_found, base_look, Node, NodeId, ChildMapId}
+use Rattle.block_map.proofs.Common.{◌≡◌, ◌==◌, true, false, List, [], ◌∷◌, ◌++◌, Option, None, Some, IfSome, length, if◌then◌else◌, inl, inr, refl, sym, ap, subst, ◌∙◌, option_and_then, slice_get, cases_Bool, ValueId, below, same_name, NameId, IsSame-same_name, Found, untouched, may_give_below, Extends, SetsChild, child_in, At, ChildGivesNone, ExtendsTrie, GivesNoMergeinfo, IsNodeOf, IsSound, LookOfNumbers, PutsNode, TrieValue, at_path, child_at, child_of, found_below, own_found, base_look, Node, NodeId, ChildMapId}
 use Rattle.std.specs.Option.{unwrap_or}
+use Rattle.std.specs.Prelude.{◌||◌, ◌≤◌, IsFalse}
+use Rattle.std.proofs.lemmas.Bool.{or_parts}
 use Rattle.block_map.proofs.CopiedNodes.{IsNodeOf-untouched, child_at-untouched}
-use Rattle.block_map.proofs.GrownTries.{Extends-none, child_in-grown, found_below-grown, base_look-grown, slice_get-last}
+use Rattle.block_map.proofs.GrownTries.{Extends-none, IsNodeOf-grown, child_in-grown, child_of-grown, found_below-grown, base_look-grown, slice_get-last}
 use Rattle.block_map.proofs.ChildMapLookups.{eqb-turned}
 
 -- a node and what is found there without it
@@ -12,7 +14,7 @@ from_node node over = record { node = node; base = over }
 -- ---- a node of which nothing is known
 
 -- below an untouched node is found what is found where there is no node
-found_below-untouched : (trie : TrieValue) (before : Option Node) (over : LookOfNumbers) (path : List NameId)
+pub found_below-untouched : (trie : TrieValue) (before : Option Node) (over : LookOfNumbers) (path : List NameId)
     → found_below trie (from_node before over) path ≡ found_below trie (from_node (Some (unwrap_or before untouched)) over) path
 found_below-untouched trie None over [] = refl
 found_below-untouched trie (Some node) over [] = refl
@@ -40,8 +42,12 @@ module _ (old new : TrieValue) (node child : Node) (name : NameId) (id : NodeId)
     locations = subst (Extends old.locations) (sym puts.locations) (Extends-none old.locations);
   }
 
+  -- the node with the child
+  abbrev with_child : Node
+  with_child = record node { children = children; may_give_mergeinfo = node.may_give_mergeinfo || may_give_below child }
+
   -- the child of the name is the one that was put
-  child_of-put : PutsChild → (other : NameId) → (name.0 == other.0) ≡ true → child_of new (record node { children = children }) other ≡ Some child
+  child_of-put : PutsChild → (other : NameId) → (name.0 == other.0) ≡ true → child_of new with_child other ≡ Some child
   child_of-put puts other is =
       let turned : (other.0 == name.0) ≡ true = eqb-turned other.0 name.0 ∙ is in
       let found : child_in new.child_maps children other.0 ≡ Some id =
@@ -51,15 +57,35 @@ module _ (old new : TrieValue) (node child : Node) (name : NameId) (id : NodeId)
 
   -- other children stay
   child_of-kept : PutsChild → (other : NameId) → (name.0 == other.0) ≡ false
-      → child_of new (record node { children = children }) other ≡ child_of new node other
+      → child_of new with_child other ≡ child_of new node other
   child_of-kept puts other is =
       let turned : (other.0 == name.0) ≡ false = eqb-turned other.0 name.0 ∙ is in
       ap (option_and_then (λ (each : NodeId). slice_get new.nodes each.0))
       (puts.sets other.0 ∙ ap (λ same. if same then Some id else child_in old.child_maps node.children other.0) turned
       ∙ sym (child_in-grown old.child_maps new.child_maps puts.sound.ordered puts.child_maps node.children other.0 puts.node_is.0))
 
+  -- it gives no mergeinfo if the node and the child gave none
+  GivesNoMergeinfo-child : PutsChild → IsFalse with_child.may_give_mergeinfo → GivesNoMergeinfo new with_child
+  GivesNoMergeinfo-child puts none =
+      let (node_none, child_none) = or_parts node.may_give_mergeinfo (may_give_below child) none in
+      let gives = puts.node_is.2 node_none in
+      record {
+        own = gives.own;
+        children = λ other. elim (cases_Bool (name.0 == other.0)) [
+          | inl is ↦ subst ChildGivesNone (sym (child_of-put puts other is)) child_none
+          | inr is ↦
+              let kept = child_of-kept puts other is ∙ child_of-grown old new puts.sound (ExtendsTrie-child puts) node other puts.node_is in
+              subst ChildGivesNone (sym kept) (gives.children other)
+        ];
+      }
+
+  -- so it is a node of the trie with the child
+  pub IsNodeOf-child : PutsChild → children.0 ≤ length new.child_maps → IsNodeOf new with_child
+  IsNodeOf-child puts within =
+      (within, (IsNodeOf-grown old new puts.sound (ExtendsTrie-child puts) node puts.node_is).1, GivesNoMergeinfo-child puts)
+
   -- below the node the child was put at the name
-  pub PutsNode-child : PutsChild → PutsNode old new (Some node) (name ∷ []) child (record node { children = children })
+  pub PutsNode-child : PutsChild → PutsNode old new (Some node) (name ∷ []) child with_child
   PutsNode-child puts over [] =
       ap (λ (look : LookOfNumbers). own_found node.own (look []))
       (base_look-grown old new puts.sound (ExtendsTrie-child puts) node.base over puts.node_is.1)

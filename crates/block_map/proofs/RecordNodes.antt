@@ -1,11 +1,12 @@
 -- The nodes that records put show what the records leave at their paths and below them.
-use Rattle.block_map.proofs.Common.{◌≡◌, ℕ, zero, suc, Bool, List, [], ◌∷◌, ◌++◌, Option, None, Some, unwrap_or, refl, sym, ap, ◌∙◌, append-nil, fold-append, same_name, NameId, Setting, delete, change, add, copy, keep, put, mergeinfo_after, ValueId, ShowsAction, ShowsPath, ShowsTick, end_of_trees, look_in_trees, Found, resolved, look, with_setting, with_mergeinfo, absent_node, own_with_mergeinfo, node_of_kind, node_with_setting, node_with_mergeinfo, untouched, At, IsNodeOf, LookOfNumbers, TrieValue, at_path, at_root, child_at, found_at, found_below, own_found, Trees, Node}
+use Rattle.block_map.proofs.Common.{◌≡◌, ℕ, zero, suc, Bool, false, List, [], ◌∷◌, ◌++◌, Option, None, Some, unwrap_or, refl, sym, ap, ◌∙◌, append-nil, fold-append, same_name, NameId, Setting, delete, change, add, copy, keep, put, mergeinfo_after, ValueId, ShowsAction, ShowsPath, ShowsTick, end_of_trees, look_in_trees, Found, resolved, look, with_setting, with_mergeinfo, absent_node, own_with_mergeinfo, node_of_kind, node_with_setting, node_with_mergeinfo, untouched, At, IsNodeOf, LookOfNumbers, TrieValue, at_path, at_root, child_at, found_at, found_below, own_found, Trees, Node}
 use Rattle.svn_dump.specs.declared.record.Kind.{Kind}
 use Rattle.block_map.specs.Look as found
 use Rattle.block_map.specs.declared.trie.node.OwnEntry.{OwnEntry}
 use Rattle.block_map.specs.declared.trie.node.OwnEntry.TheVariants as own
 use Rattle.block_map.proofs.TreesNodes.{found_below-childless}
 use Rattle.block_map.proofs.CopiedNodes.{child_at-untouched, found_at-untouched}
+use Rattle.block_map.proofs.MergeinfoGiven.{IsNodeOf-with_mergeinfo}
 
 -- ---- what trees show
 
@@ -56,7 +57,7 @@ child_at-with_setting trie (put mi) node over name = refl
 
 pub IsNodeOf-with_setting : (trie : TrieValue) (setting : Setting ValueId) (node : Node) → IsNodeOf trie node → IsNodeOf trie (node_with_setting setting node)
 IsNodeOf-with_setting trie keep node is = is
-IsNodeOf-with_setting trie (put mi) node is = is
+IsNodeOf-with_setting trie (put mi) node is = IsNodeOf-with_mergeinfo trie mi node is
 
 -- ---- the actions of records
 
@@ -68,13 +69,13 @@ module _ (trees : Trees) (root : Node) (path : List NameId) where
   pub ShowsAction-delete : ShowsAction trees root path delete absent_node
   ShowsAction-delete [] = sym (resolved-absent trees.start)
   ShowsAction-delete (name ∷ rest) =
-      found_below-childless trees.trie absent_node.own absent_node.base (at_path trees.trie (at_root root) path).base name rest ∙ sym (resolved-absent trees.start)
+      found_below-childless trees.trie absent_node.own absent_node.base false (at_path trees.trie (at_root root) path).base name rest ∙ sym (resolved-absent trees.start)
 
   pub ShowsAction-add : (replace : Bool) (kind : Kind) (setting : Setting ValueId) → ShowsAction trees root path (add replace kind setting) (node_of_kind kind (mergeinfo_after setting None))
   ShowsAction-add replace kind setting [] = sym (resolved-is trees.start kind (mergeinfo_after setting None))
   ShowsAction-add replace kind setting (name ∷ rest) =
       let node = node_of_kind kind (mergeinfo_after setting None) in
-      found_below-childless trees.trie node.own node.base (at_path trees.trie (at_root root) path).base name rest ∙ sym (resolved-absent trees.start)
+      found_below-childless trees.trie node.own node.base node.may_give_mergeinfo (at_path trees.trie (at_root root) path).base name rest ∙ sym (resolved-absent trees.start)
 
   pub ShowsAction-change : (mi : Option ValueId) → ShowsTick trees (end_of_trees trees) root
       → ShowsAction trees root path (change (put mi)) (node_with_mergeinfo mi (unwrap_or (at_path trees.trie (at_root root) path).node untouched))

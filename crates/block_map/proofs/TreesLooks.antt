@@ -1,7 +1,7 @@
 -- The roots of trees, and what they show.
 use Rattle.block_map.proofs.Common.{◌≡◌, ℕ, ◌+◌, ◌-◌, ◌^◌, ◌<◌, ◌≤◌, Bool, List, [], ◌∷◌, ◌++◌, Option, None, Some, get_or, length, inl, inr, refl, sym, ap, subst, ◌∙◌, arith, slice_get, cases_lt, length_push, fold-append, same_Some, slice_get-get_or, slice_get_within, below, same_name, NameId, IsSame-same_name, append-from_below, Record, ValueId, slice_get-front, AreTrees, IsRootAfter, IsRootAt, SameTrees, ShowsAction, ShowsTick, end_of_trees, look_after_action, look_after_record, look_in_trees, Found, Look, found_after_action, resolved, look, look_after, look_at, looks_of, with_look, ExtendsTrie, IsNodeOf, IsSound, PutsNode, TrieValue, at_path, at_root, found_below, nothing, Trees, Node, NodeId}
 use Rattle.std.specs.Prelude.{fold}
-use Rattle.block_map.proofs.GrownTries.{Extends-none, found_below-grown, slice_get-grown, slice_get-last}
+use Rattle.block_map.proofs.GrownTries.{ExtendsTrie-pushed, found_below-grown, slice_get-grown, slice_get-last}
 use Rattle.block_map.proofs.Standings.{look_at-append, look_at_push}
 
 -- ---- one more record
@@ -128,13 +128,6 @@ look_after_record-cases trees each path = by (below same_name each.path path) re
 -- a node that was added is found
 pub pushed_node : (old new : TrieValue) (node : Node) (id : NodeId) → id.0 ≡ length old.nodes → new ≡ record old { nodes = old.nodes ++ node ∷ [] } → slice_get new.nodes id.0 ≡ Some node
 pushed_node old new node id at added = ap (λ trie. slice_get trie.nodes id.0) added ∙ slice_get-last old.nodes node id.0 at
-
-pub ExtendsTrie-pushed : (old new : TrieValue) (node : Node) → new ≡ record old { nodes = old.nodes ++ node ∷ [] } → ExtendsTrie old new
-ExtendsTrie-pushed old new node added = subst (ExtendsTrie old) (sym added) (record {
-  nodes = record { more = node ∷ []; grown = refl };
-  child_maps = Extends-none old.child_maps;
-  locations = Extends-none old.locations;
-})
 
 -- it shows what it showed before
 pub IsRootAt-pushed : (trees : Trees) (new : TrieValue) (tick : ℕ) (node : Node) (id : NodeId) → IsSound trees.trie → IsNodeOf trees.trie node → ShowsTick trees tick node → id.0 ≡ length trees.trie.nodes

@@ -1,9 +1,9 @@
 -- The nodes that records put, and what they show.
-use Rattle.block_map.proofs.Common.{◌≡◌, ◌≢◌, ℕ, zero, suc, ◌≤◌, List, [], ◌∷◌, ◌++◌, None, Some, refl, sym, ap, ◌∙◌, option_and_then, slice_get, same_name, NameId, ValueId, ShowsPath, look_in_trees, from_beginning, resolved, looks_of, absent_node, no_children, node_at_location, node_of_kind, LookOfNumbers, TrieValue, as_at, found_below, base_look, Trees, Base, NodeId, LocationId}
+use Rattle.block_map.proofs.Common.{◌≡◌, ◌≢◌, ℕ, zero, suc, ◌≤◌, Bool, false, List, [], ◌∷◌, ◌++◌, None, Some, refl, sym, ap, ◌∙◌, slice_get, same_name, NameId, ValueId, ShowsPath, look_in_trees, from_beginning, resolved, looks_of, absent_node, no_children, node_at_location, node_of_kind, LookOfNumbers, TrieValue, as_at, found_below, base_look, Trees, Base, LocationId}
 use Rattle.svn_dump.specs.declared.record.Kind.TheVariants.{Dir}
 use Rattle.block_map.specs.Look as found
 use Rattle.block_map.specs.declared.trie.node.OwnEntry.{OwnEntry}
-use Rattle.block_map.proofs.GrownTries.{found_within-zero}
+use Rattle.block_map.proofs.MergeinfoGiven.{child_of-childless}
 use Rattle.block_map.proofs.Standings.{look_at_first}
 
 -- ---- nodes without children
@@ -14,12 +14,12 @@ found_below-none trie over [] = refl
 found_below-none trie over (name ∷ path) = found_below-none trie (λ rest. over (name ∷ rest)) path
 
 -- below a node without children everything is found as in its base
-pub found_below-childless : (trie : TrieValue) (own : OwnEntry) (base : Base) (over : LookOfNumbers) (name : NameId) (path : List NameId)
-    → found_below trie (record { node = Some (record { own = own; base = base; children = no_children }); base = over }) (name ∷ path)
+pub found_below-childless : (trie : TrieValue) (own : OwnEntry) (base : Base) (may : Bool) (over : LookOfNumbers) (name : NameId) (path : List NameId)
+    → found_below trie (record { node = Some (record { own = own; base = base; children = no_children; may_give_mergeinfo = may }); base = over }) (name ∷ path)
     ≡ base_look trie base over (name ∷ path)
-found_below-childless trie own base over name path =
+found_below-childless trie own base may over name path =
     ap (λ child. found_below trie (record { node = child; base = λ rest. base_look trie base over (name ∷ rest) }) path)
-    (ap (option_and_then (λ (id : NodeId). slice_get trie.nodes id.0)) (found_within-zero trie.child_maps 0 name.0))
+    (child_of-childless trie own base may name)
     ∙ found_below-none trie (λ rest. base_look trie base over (name ∷ rest)) path
 
 -- ---- before the trees
@@ -48,7 +48,7 @@ ShowsPath-root trees tick zero_is before = λ over rest. by over rest
         → found_below trees.trie (record { node = Some (node_of_kind Dir None); base = over }) rest ≡ look_in_trees trees tick rest
     by over [] = sym (look_in_trees-beginning trees tick [] zero_is before)
     by over (name ∷ rest) =
-        found_below-childless trees.trie (node_of_kind Dir None).own (node_of_kind Dir None).base over name rest
+        found_below-childless trees.trie (node_of_kind Dir None).own (node_of_kind Dir None).base false over name rest
         ∙ sym (look_in_trees-beginning trees tick (name ∷ rest) zero_is before)
 
 -- and nothing else
@@ -59,7 +59,7 @@ ShowsPath-absent trees tick name path zero_is before = λ over rest. by over res
         → found_below trees.trie (record { node = Some absent_node; base = over }) rest ≡ look_in_trees trees tick (name ∷ path ++ rest)
     by over [] = sym (look_in_trees-beginning trees tick (name ∷ path ++ []) zero_is before)
     by over (next ∷ rest) =
-        found_below-childless trees.trie absent_node.own absent_node.base over next rest
+        found_below-childless trees.trie absent_node.own absent_node.base false over next rest
         ∙ sym (look_in_trees-beginning trees tick (name ∷ path ++ next ∷ rest) zero_is before)
 
 -- a node at a location shows what stood there
@@ -71,4 +71,4 @@ ShowsPath-location trees tick path id later before kept = λ over rest. by over 
         → found_below trees.trie (record { node = Some (node_at_location id); base = over }) rest ≡ found.at (path ++ rest) tick
     by over [] = ap (λ location. as_at location []) kept
     by over (name ∷ rest) =
-        found_below-childless trees.trie (node_at_location id).own (node_at_location id).base over name rest ∙ ap (λ location. as_at location (name ∷ rest)) kept
+        found_below-childless trees.trie (node_at_location id).own (node_at_location id).base false over name rest ∙ ap (λ location. as_at location (name ∷ rest)) kept

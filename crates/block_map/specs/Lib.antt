@@ -9,9 +9,11 @@ pub mod Look
 pub mod Looked
 pub mod LookThrough
 pub mod Map
+pub mod MergeinfoBelow
 pub mod Node
 pub mod ChildMaps
 pub mod Standing
 pub mod StoredChildMaps
+pub mod StoredNodes
 pub mod Trees
 pub mod Trie

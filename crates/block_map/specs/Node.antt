@@ -1,11 +1,12 @@
 -- The nodes that records put.
-use Rattle.std.specs.Prelude.{Option}
+use Rattle.std.specs.Prelude.{◌||◌, Bool, false, true, is_some, Option}
 use Rattle.svn_dump.specs.History.{Setting, keep, put}
 use Rattle.svn_dump.specs.declared.record.Kind.{Kind}
 use Rattle.svn_dump.specs.declared.record.ValueId.{ValueId}
 use Rattle.block_map.specs.declared.trie.node.OwnEntry.{OwnEntry}
 use Rattle.block_map.specs.declared.trie.node.OwnEntry.TheVariants as own
 use Rattle.block_map.specs.declared.trie.node.Node.{Node}
+use Rattle.block_map.specs.declared.trie.node.Base.{Base}
 use Rattle.block_map.specs.declared.trie.node.Base.TheVariants as base
 use Rattle.block_map.specs.declared.trie.child_map.ChildMapId.{ChildMapId}
 use Rattle.block_map.specs.declared.trie.location.LocationId.{LocationId}
@@ -15,16 +16,25 @@ no_children = record { 0 = 0 }
 
 -- nothing is known of it but by its base
 abbrev pub untouched : Node
-untouched = record { own = own.AsBase; base = base.OfParent; children = no_children }
+untouched = record { own = own.AsBase; base = base.OfParent; children = no_children; may_give_mergeinfo = false }
 
 abbrev pub absent_node : Node
-absent_node = record { own = own.Absent; base = base.Nothing; children = no_children }
+absent_node = record { own = own.Absent; base = base.Nothing; children = no_children; may_give_mergeinfo = false }
 
 abbrev pub node_of_kind : Kind → Option ValueId → Node
-node_of_kind kind mi = record { own = own.Is kind mi; base = base.Nothing; children = no_children }
+node_of_kind kind mi = record { own = own.Is kind mi; base = base.Nothing; children = no_children; may_give_mergeinfo = is_some mi }
 
 abbrev pub node_at_location : LocationId → Node
-node_at_location id = record { own = own.AsBase; base = base.At id; children = no_children }
+node_at_location id = record { own = own.AsBase; base = base.At id; children = no_children; may_give_mergeinfo = false }
+
+abbrev pub is_location : Base → Bool
+is_location base.OfParent = false
+is_location base.Nothing = false
+is_location (base.At id) = true
+
+-- whether the node may give mergeinfo to its path or one below it, other than what the base of its parent has there
+abbrev pub may_give_below : Node → Bool
+may_give_below node = node.may_give_mergeinfo || is_location node.base
 
 -- what stands at the node with this mergeinfo, if anything stands there
 abbrev pub own_with_mergeinfo : Option ValueId → OwnEntry → OwnEntry
@@ -34,7 +44,7 @@ own_with_mergeinfo mi (own.Is kind old) = own.Is kind mi
 own_with_mergeinfo mi own.Absent = own.Absent
 
 abbrev pub node_with_mergeinfo : Option ValueId → Node → Node
-node_with_mergeinfo mi node = record node { own = own_with_mergeinfo mi node.own }
+node_with_mergeinfo mi node = record node { own = own_with_mergeinfo mi node.own; may_give_mergeinfo = node.may_give_mergeinfo || is_some mi }
 
 -- the node with the mergeinfo that a record leaves
 abbrev pub node_with_setting : Setting ValueId → Node → Node

@@ -1,11 +1,12 @@
 -- What the nodes of a map say of paths.
-use Rattle.std.specs.Prelude.{◌≡◌, ℕ, ◌<◌, ◌≤◌, List, [], ◌∷◌, ◌++◌, Option, Some, None, IfSome, drop, fold, length, option_and_then, slice_get}
+use Rattle.std.specs.Prelude.{◌≡◌, ℕ, ◌<◌, ◌≤◌, List, [], ◌∷◌, ◌++◌, Option, Some, None, IfSome, IsFalse, drop, fold, length, option_and_then, slice_get}
 use Rattle.svn_path.specs.Below.{below}
 use Rattle.svn_path.specs.Path.{same_name}
 use Rattle.svn_path.specs.declared.names.NameId.{NameId}
 use Rattle.svn_dump.specs.declared.record.ValueId.{ValueId}
 use Rattle.block_map.specs.Look.{Found, Look, at, is, absent, with_mergeinfo}
 use Rattle.block_map.specs.ChildMaps.{Extends, AreOrdered, HaveNodesBelow, child_in}
+use Rattle.block_map.specs.Node.{may_give_below}
 use Rattle.block_map.specs.Standing.{Standing, standing_of}
 use Rattle.block_map.specs.declared.trie.node.OwnEntry.{OwnEntry}
 use Rattle.block_map.specs.declared.trie.node.OwnEntry.TheVariants as own
@@ -96,9 +97,26 @@ HasLocation trie base.OfParent = Unit {0}
 HasLocation trie base.Nothing = Unit {0}
 HasLocation trie (base.At id) = id.0 < length trie.locations
 
--- the children and the location of the node are those of the trie
+-- the entry of a node gives no mergeinfo to its own path
+abbrev pub EntryGivesNone : OwnEntry → Type 0
+EntryGivesNone own.AsBase = Unit {0}
+EntryGivesNone (own.BaseWithMergeinfo mi) = mi ≡ None
+EntryGivesNone (own.Is kind mi) = mi ≡ None
+EntryGivesNone own.Absent = Unit {0}
+
+-- a child gives none, if there is one
+abbrev pub ChildGivesNone : Option Node → Type 0
+ChildGivesNone child = IfSome child (λ node. IsFalse (may_give_below node))
+
+-- neither the entry of the node nor a child of it gives mergeinfo
+pub record GivesNoMergeinfo (trie : TrieValue) (node : Node) : Type 0 where
+  pub own : EntryGivesNone node.own
+  pub children : (name : NameId) → ChildGivesNone (child_of trie node name)
+
+-- the children and the location of the node are those of the trie, and it gives no mergeinfo unless it may
 abbrev pub IsNodeOf : TrieValue → Node → Type 0
-IsNodeOf trie node = (node.children.0 ≤ length trie.child_maps) × HasLocation trie node.base
+IsNodeOf trie node =
+    (node.children.0 ≤ length trie.child_maps) × HasLocation trie node.base × (IsFalse node.may_give_mergeinfo → GivesNoMergeinfo trie node)
 
 pub record IsSound (trie : TrieValue) : Type 0 where
   pub ordered : AreOrdered trie.child_maps

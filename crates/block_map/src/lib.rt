@@ -18,6 +18,7 @@ mod ghost_record;
 mod joining;
 mod looked;
 mod map;
+mod mergeinfo_below;
 mod trees;
 mod trie;
 

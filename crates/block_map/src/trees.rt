@@ -11,6 +11,7 @@ ghost use Rattle.block_map.specs.LookThrough.{IsFoundUpTo};
 ghost use Rattle.block_map.specs.Ends.{HasSourceBefore, record_at_tick};
 ghost use Rattle.block_map.specs.Looked.{looked_view};
 ghost use Rattle.block_map.specs.Map.{AreEntryAndNearest, found_view};
+ghost use Rattle.block_map.specs.MergeinfoBelow.{IsBelowUpTo, IsMergeinfoBelow};
 ghost use Rattle.block_map.specs.Standing.{entry_view, standing_of};
 ghost use Rattle.block_map.specs.Trie.{IsNodeOf, IsSound, as_at};
 
@@ -19,6 +20,7 @@ use crate::entry::{Child, Entry, Nearest};
 use crate::found::Found;
 use crate::ghost_record::GhostRecord;
 use crate::looked::Looked;
+use crate::mergeinfo_below::MergeinfoBelow;
 use crate::trie::{Location, Node, NodeId, Trie};
 use par_scan::GhostList;
 use std::alloc::{AllocError, Global};
@@ -300,6 +302,24 @@ impl Trees {
         let root = self.root(location.tick);
         let base = self.trie.push_names(root, location.path.parts(), names)?;
         Ok(up_to(base, self.start))
+    }
+
+    /// What these records say of the mergeinfo at and below a location that later records found.
+    pub(crate) fn mergeinfo_below(&self, found: Location) -> Result<MergeinfoBelow, AllocError>
+        requires trees { AreTrees self.now }
+        requires within { found.tick ≤ end_of_trees self.now }
+        ensures earlier { IfOk result (IsBelowUpTo self.now.start) }
+        ensures says { IfOk result (IsMergeinfoBelow (λ rest.
+            resolved self.now.start (look_through_trees self.now (as_at (Some found) rest)))) }
+    {
+        if found.tick <= self.start {
+            return Ok(MergeinfoBelow::AsAt(Some(found)));
+        }
+        let root = self.root(found.tick);
+        match self.trie.mergeinfo_below(root, found.path.parts())? {
+            MergeinfoBelow::Maybe => Ok(MergeinfoBelow::Maybe),
+            MergeinfoBelow::AsAt(base) => Ok(MergeinfoBelow::AsAt(up_to(base, self.start))),
+        }
     }
 
     /// What stands at these names directly below a path at a tick after `start`, as far as these records say it.

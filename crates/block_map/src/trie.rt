@@ -5,6 +5,7 @@ ghost use Rattle.block_map.specs.Children.{AreChildren, AreKept, AreOthersAt, Ha
 ghost use Rattle.block_map.specs.Look.{with_mergeinfo as changed};
 ghost use Rattle.block_map.specs.Looked.{looked_view};
 ghost use Rattle.block_map.specs.Map.{AreEntryAndNearest, found_view, nearest_view};
+ghost use Rattle.block_map.specs.MergeinfoBelow.{IsMergeinfoBelow};
 ghost use Rattle.block_map.specs.Standing.{entry_view, mergeinfo_of, standing_of};
 ghost use Rattle.block_map.specs.Trie.{ExtendsTrie, HasLocation, IsBaseOfPath, IsCopiedNode, IsLocationOfPath, IsNodeOf, IsPathBaseOf, IsPositionOf, IsSound, PutsNode};
 ghost use Rattle.block_map.specs.Trie.{as_at, child_at, child_of, found_at, own_found, found_below, path_base_view, position_view, standing_below, at_root};
@@ -14,19 +15,23 @@ mod child_maps;
 mod location;
 mod locations;
 mod node;
+mod nodes;
 mod numbers;
 mod position;
 mod stored_child_map;
+mod stored_node;
 
 use crate::entry::{Child, Entry, Nearest, push_child};
 use crate::found::Found;
 use crate::looked::Looked;
+use crate::mergeinfo_below::MergeinfoBelow;
 use child_maps::ChildMaps;
 pub(crate) use location::Location;
 use location::LocationId;
 use locations::Locations;
 pub(crate) use node::{Node, NodeId};
 use node::{Base, OwnEntry};
+use nodes::Nodes;
 use numbers::next_number;
 use position::{PathBase, Position, base_of_path};
 use std::alloc::{AllocError, Global};
@@ -37,7 +42,7 @@ use svn_path::{NameId, Path};
 /// The nodes of trees, the maps of their children, and the locations that they name. Nothing in it ever changes.
 #[derive(Drop)]
 pub(crate) struct Trie {
-    nodes: Vec<Node>,
+    nodes: Nodes,
     child_maps: ChildMaps,
     locations: Locations,
 }
@@ -47,10 +52,10 @@ impl Model for Trie {
 
     ghost Value = { TrieValue };
 
-    ghost view = { λ t. record { nodes = t.nodes.items; child_maps = t.child_maps; locations = t.locations } };
+    ghost view = { λ t. record { nodes = t.nodes; child_maps = t.child_maps; locations = t.locations } };
 
     ghost invariant = { λ t.
-        IsSound (record { nodes = t.nodes.items; child_maps = t.child_maps; locations = t.locations }) };
+        IsSound (record { nodes = t.nodes; child_maps = t.child_maps; locations = t.locations }) };
 }
 
 impl Trie {
@@ -60,7 +65,7 @@ impl Trie {
         ensures sound { IsSound result }
     {
         Trie {
-            nodes: Vec::new(alloc),
+            nodes: Nodes::new(alloc),
             child_maps: ChildMaps::new(alloc),
             locations: Locations::new(alloc),
         }
@@ -79,7 +84,7 @@ impl Trie {
         ensures is { slice_get self.now.nodes id.0 ≡ Some result }
         ensures sound { IsNodeOf self.now result }
     {
-        self.nodes[id.0 as usize]
+        self.nodes.node(id)
     }
 
     /// Adds a node.
@@ -112,7 +117,7 @@ impl Trie {
         ensures trie { IsSound self.now }
     {
         match self.child_maps.get(node.children, name) {
-            Some(id) => self.nodes.get(id.0 as usize).copied(),
+            Some(id) => self.nodes.get(id),
             None => None,
         }
     }
@@ -153,7 +158,11 @@ impl Trie {
     {
         let id = self.push(child)?;
         let children = self.child_maps.set(node.children, name, id)?;
-        Ok(Node { children, ..node })
+        Ok(Node {
+            children,
+            may_give_mergeinfo: node.may_give_mergeinfo || child.may_give_below(),
+            ..node
+        })
     }
 
     /// The position one component further down, where the path goes on.
@@ -374,6 +383,24 @@ impl Trie {
         self.location(base, path)
     }
 
+    /// What is known of the mergeinfo at and below a path below a root.
+    pub(crate) fn mergeinfo_below(
+        &self,
+        root: Node,
+        path: &[NameId],
+    ) -> Result<MergeinfoBelow, AllocError>
+        requires { IsNodeOf self.now root }
+        ensures { IfOk result (IsMergeinfoBelow (λ rest. found_below self.now (at_root root) (path.now ++ rest))) }
+    {
+        let position = self.find(root, path);
+        let node = Node::or_untouched(position.node);
+        if node.may_give_mergeinfo {
+            return Ok(MergeinfoBelow::Maybe);
+        }
+        let base = base_of_path(node.base, position.base, path.len());
+        Ok(MergeinfoBelow::AsAt(self.location(base, path)?))
+    }
+
     /// What is known to stand at these names directly below a path below a root.
     pub(crate) fn children_of(
         &self,
@@ -387,7 +414,7 @@ impl Trie {
         ensures { IfOk result (λ children. AreChildren (standing_below self.now root) path.now children.items) }
     {
         let position = self.find(root, path);
-        let mut children = Vec::new(*self.nodes.allocator());
+        let mut children = Vec::new(self.nodes.allocator());
         for name in names {
             let name = NameId(*name);
             let child = self.step(position, name, path.len());

@@ -13,6 +13,8 @@ mod joins;
 #[cfg(test)]
 mod maps;
 #[cfg(test)]
+mod mergeinfo_below;
+#[cfg(test)]
 mod refused_growths;
 #[cfg(test)]
 mod totals;

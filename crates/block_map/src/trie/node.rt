@@ -1,7 +1,7 @@
 //! What trees have at a path and below it, in nodes that they share.
 ghost use Rattle.std.specs.Prelude.{◌≡◌, unwrap_or};
 ghost use Rattle.svn_dump.specs.Dump.{setting_view};
-ghost use Rattle.block_map.specs.Node.{absent_node, node_at_location, node_of_kind, node_with_mergeinfo, node_with_setting, untouched};
+ghost use Rattle.block_map.specs.Node.{absent_node, may_give_below, node_at_location, node_of_kind, node_with_mergeinfo, node_with_setting, untouched};
 
 use crate::trie::child_map::ChildMapId;
 use crate::trie::location::LocationId;
@@ -38,6 +38,8 @@ pub(crate) struct Node {
     pub(crate) own: OwnEntry,
     pub(crate) base: Base,
     pub(crate) children: ChildMapId,
+    /// Whether it or a node below it may give mergeinfo to a path, other than what its base has there.
+    pub(crate) may_give_mergeinfo: bool,
 }
 
 impl Node {
@@ -49,6 +51,7 @@ impl Node {
             own: OwnEntry::AsBase,
             base: Base::OfParent,
             children: ChildMapId(0),
+            may_give_mergeinfo: false,
         })
     }
 
@@ -60,6 +63,7 @@ impl Node {
             own: OwnEntry::Absent,
             base: Base::Nothing,
             children: ChildMapId(0),
+            may_give_mergeinfo: false,
         }
     }
 
@@ -71,6 +75,7 @@ impl Node {
             own: OwnEntry::Is { kind, mi },
             base: Base::Nothing,
             children: ChildMapId(0),
+            may_give_mergeinfo: mi.is_some(),
         }
     }
 
@@ -82,7 +87,15 @@ impl Node {
             own: OwnEntry::AsBase,
             base: Base::At(location),
             children: ChildMapId(0),
+            may_give_mergeinfo: false,
         }
+    }
+
+    /// Whether it may give mergeinfo to its path or one below it, other than what the base of its parent has there.
+    pub(crate) fn may_give_below(self) -> bool
+        ensures { result ≡ may_give_below self }
+    {
+        self.may_give_mergeinfo || matches!(self.base, Base::At(_))
     }
 
     /// The node with this mergeinfo, if anything stands there.
@@ -94,7 +107,11 @@ impl Node {
             OwnEntry::Is { kind, .. } => OwnEntry::Is { kind, mi },
             OwnEntry::Absent => OwnEntry::Absent,
         };
-        Node { own, ..self }
+        Node {
+            own,
+            may_give_mergeinfo: self.may_give_mergeinfo || mi.is_some(),
+            ..self
+        }
     }
 
     /// The node with the mergeinfo that a record leaves.

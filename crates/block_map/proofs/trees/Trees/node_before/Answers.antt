@@ -1,7 +1,30 @@
-use Rattle.block_map.proofs.Common.{◌≡◌, ◌≢◌, refl, List, [], ◌∷◌, Some, length, sym, ap, ◌∙◌, slice_get, eq-eqb, eqb-true, nil_from_length, NameId, ShowsPath, absent_node, Trees}
+use Rattle.block_map.proofs.Common.{◌≡◌, ◌≢◌, ◌<◌, None, refl, List, [], ◌∷◌, Some, arith, length, length_push, sym, ap, subst, ◌∙◌, slice_get, eq-eqb, eqb-true, nil_from_length, NameId, ShowsPath, IsNodeOf, absent_node, node_at_location, node_of_kind, Trees, TrieValue}
+use Rattle.svn_dump.specs.declared.record.Kind.TheVariants.{Dir}
 use Rattle.block_map.proofs.GrownTries.{slice_get-last}
+use Rattle.block_map.proofs.MergeinfoGiven.{IsNodeOf-childless}
 use Rattle.block_map.proofs.TreesNodes.{ShowsPath-absent, ShowsPath-location, ShowsPath-root}
 use Rattle.block_map.proofs.trees.Trees.node_before.Goals as goal
+
+pub returns-then-is_empty-clause-sound : goal.returns-then-is_empty-clause-sound
+returns-then-is_empty-clause-sound c =
+    let node = node_of_kind Dir None in
+    let trie = c.args.self.now.trie in
+    subst (IsNodeOf trie) (sym c.is.ensures) (IsNodeOf-childless trie node.own node.base node.may_give_mergeinfo tt (λ none. refl))
+
+pub returns-else-is_empty-clause-sound : goal.returns-else-is_empty-clause-sound
+returns-else-is_empty-clause-sound c =
+    let trie = c.args.self.now.trie in
+    subst (IsNodeOf trie) (sym c.absent.ensures)
+    (IsNodeOf-childless trie absent_node.own absent_node.base absent_node.may_give_mergeinfo tt (λ none. tt))
+
+pub returns-clause-sound : goal.returns-clause-sound
+returns-clause-sound c =
+    let trie = c.push_location.new.self in
+    let id = c.in_ok-location.location in
+    let node = node_at_location id in
+    let count = ap (λ (each : TrieValue). length each.locations) c.in_ok-location.ensures.added ∙ length_push c.args.self.now.trie.locations _ in
+    let within : id.0 < length trie.locations = omega (arith, c.in_ok-location.ensures.id, count) in
+    subst (IsNodeOf trie) (sym c.at.ensures) (IsNodeOf-childless trie node.own node.base node.may_give_mergeinfo within (λ none. tt))
 
 pub returns-then-is_empty-clause-shows : goal.returns-then-is_empty-clause-shows
 returns-then-is_empty-clause-shows c =

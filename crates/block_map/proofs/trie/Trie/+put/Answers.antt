@@ -1,6 +1,15 @@
-use Rattle.block_map.proofs.Common.{◌∷◌, [], Some, sym, ap, subst, ◌∙◌, IfOk-weaker, PutsNode, child_of, Node}
+use Rattle.block_map.proofs.Common.{◌∷◌, [], Some, sym, ap, subst, unwrap_or, ◌∙◌, IfOk-weaker, IsNodeOf, PutsNode, child_of, untouched, Node}
+use Rattle.block_map.proofs.CopiedNodes.{IsNodeOf-untouched}
+use Rattle.block_map.proofs.GrownTries.{IsNodeOf-grown}
 use Rattle.block_map.proofs.NodesPut.{PutsNode-path}
 use Rattle.block_map.proofs.trie.Trie.+put.Goals as goal
+
+pub with_child-requires-clause-node : goal.with_child-requires-clause-node
+with_child-requires-clause-node t c =
+    let old = c.args.self.now in
+    let mid = c.put.new.self in
+    subst (IsNodeOf mid) (sym c.or_untouched-above.ensures)
+    (IsNodeOf-grown old mid c.child-child.ensures.trie c.in_ok-below.ensures.grown (unwrap_or c.args.before untouched) (IsNodeOf-untouched old c.args.before c.requires.before))
 
 pub returns-clause-exact : goal.returns-clause-exact
 returns-clause-exact t c =

@@ -1,7 +1,16 @@
-use Rattle.block_map.proofs.Common.{ap, ◌∙◌, path_base_view, base_look, position_view, Node}
-use Rattle.block_map.proofs.CopiedNodes.{IsCopiedNode-base}
+use Rattle.block_map.proofs.Common.{ap, subst, sym, ◌∙◌, IsNodeOf, path_base_view, base_look, position_view, Node}
+use Rattle.block_map.proofs.CopiedNodes.{IsCopiedNode-base, IsNodeOf-untouched}
+use Rattle.block_map.proofs.GrownTries.{IsNodeOf-grown}
 use Rattle.block_map.proofs.Positions.{path_base_view-base_of_path}
 use Rattle.block_map.proofs.trie.Trie.copied.Goals as goal
+
+pub returns-clause-sound : goal.returns-clause-sound
+returns-clause-sound c =
+    let old = c.args.self.now in
+    let node = c.or_untouched-node.result in
+    let before = subst (IsNodeOf old) (sym c.or_untouched-node.ensures) (IsNodeOf-untouched old c.args.position.node c.requires.node) in
+    let is = IsNodeOf-grown old c.node_base.new.self c.node_base.ensures.before c.in_ok-base.ensures.grown node before in
+    (is.0, c.in_ok-base.ensures.location, λ none. record { own = (is.2 none).own; children = (is.2 none).children })
 
 pub returns-clause-exact : goal.returns-clause-exact
 returns-clause-exact c =
