@@ -14,7 +14,7 @@ use std::alloc::{AllocError, Global};
 
 /// A source path as it is printed, and the revisions that were merged from it.
 #[derive(Drop)]
-pub(crate) struct Entry {
+pub struct Entry {
     pub path: Vec<u8>,
     pub ranges: Ranges,
 }

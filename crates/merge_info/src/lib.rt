@@ -19,5 +19,7 @@ mod runs_by_path;
 mod source_path;
 mod text;
 
+pub use entry::Entry;
 pub use error::MergeError;
 pub use merge_info::MergeInfo;
+pub use rangelist::read_rangelist;

@@ -4,7 +4,7 @@ ghost use Rattle.merge_info.specs.Line.{IsLine, line_of, line_view};
 
 use crate::clash::has_clash;
 use crate::error::MergeError;
-use crate::rangelist::{rangelist, without_blanks};
+use crate::rangelist::{read_rangelist, without_blanks};
 use crate::source_path::printed_path;
 use range_list::Run;
 use std::alloc::Global;
@@ -28,7 +28,7 @@ impl Line {
         let Some((path, list)) = split_at_last(b':', bytes) else {
             return Err(MergeError::Malformed);
         };
-        let runs = rangelist(alloc, without_blanks(list))?;
+        let runs = read_rangelist(alloc, without_blanks(list))?;
         if has_dot(path) || has_clash(alloc, &runs)? {
             return Err(MergeError::Malformed);
         }

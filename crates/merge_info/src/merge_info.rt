@@ -69,6 +69,14 @@ impl MergeInfo {
         }
     }
 
+    /// The paths in the order of their bytes, each with its revisions.
+    pub fn entries(&self) -> &[Entry]
+        ensures value { map entry_view result.now ≡ self.now }
+        ensures canonical { IsMergeInfo self.now }
+    {
+        self.entries.as_slice()
+    }
+
     /// Whether no path has revisions that were merged from it.
     pub fn is_empty(&self) -> bool
         ensures empty { IsTrue result ↔ (self.now ≡ []) }

@@ -8,8 +8,8 @@ use crate::error::MergeError;
 use range_list::Run;
 use std::alloc::Global;
 
-/// Nothing, or elements separated by one comma each, in their order.
-pub(crate) fn rangelist(alloc: Global, bytes: &[u8]) -> Result<Vec<Run>, MergeError>
+/// The runs of a rangelist, in their order: nothing, or elements separated by one comma each.
+pub fn read_rangelist(alloc: Global, bytes: &[u8]) -> Result<Vec<Run>, MergeError>
     ensures ok { IfOk result (λ runs. elements_of bytes.now ≡ Some runs.items) }
     ensures runs { IfOk result (λ runs. All IsRun runs.items) }
     ensures malformed { IsErrOf result MergeError.Malformed → elements_of bytes.now ≡ None }

@@ -1,6 +1,6 @@
 use Rattle.merge_info.proofs.Common.{drop, length, slice_split, IsRun, element_of, elements_of, is_comma}
 use Rattle.merge_info.proofs.Collected.{AreCollected}
-use Rattle.merge_info.proofs.rangelist.rangelist.Given as goal
+use Rattle.merge_info.proofs.rangelist.read_rangelist.Given as goal
 
 abbrev pub invariant-loop-part : goal.invariant-loop-part
 invariant-loop-part l =

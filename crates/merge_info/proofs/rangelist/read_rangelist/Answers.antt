@@ -3,8 +3,8 @@ use Rattle.std.proofs.lemmas.Iterator.Consumers.{YieldsList-at, YieldsList-end, 
 use Rattle.std.proofs.lemmas.Iterator.Splits.{YieldsList-from_slice_split}
 use Rattle.merge_info.proofs.Collected.{AreCollected-all, AreCollected-missing, AreCollected-more, AreCollected-none, drop-next}
 use Rattle.merge_info.proofs.Elements.{elements_of-none, elements_of-some}
-use Rattle.merge_info.proofs.rangelist.rangelist.Goals as goal
-use Rattle.merge_info.proofs.rangelist.rangelist.Goals.{In-Some}
+use Rattle.merge_info.proofs.rangelist.read_rangelist.Goals as goal
+use Rattle.merge_info.proofs.rangelist.read_rangelist.Goals.{In-Some}
 
 pub returns-then-is_empty-clause-ok : goal.returns-then-is_empty-clause-ok
 returns-then-is_empty-clause-ok c =
