@@ -1,6 +1,7 @@
 -- The history of a dump's records, revision by revision, and the trees of a history's first revisions.
-use Rattle.path_index.proofs.Common.{◌≡◌, ℕ, zero, suc, ◌+◌, ◌-◌, ◌<◌, ◌≤◌, ◌==◌, nat_lt, Bool, true, false, not, ◌&&◌, ◌||◌, if◌then◌else◌, List, [], ◌∷◌, ◌++◌, Option, None, Some, All, map, filter, take, drop, length, get_or, replicate, refl, sym, ap, subst, ◌∙◌, append-nil, arith, eq-eqb, ne_eqb, length-map, length-replicate, get_or-map, get_or-take, take-append-drop, take_at, drop_at, take-map, drop-map, take_more, All-nil, All-cons, All-append, All-replicate, All-head, All-tail, filter-append, DumpValue, record_view, records_by_revision, revisions_from, history_view, History, location, Tree, trees_of, NodeRecord, AreRising, records_of, history_to, names_below, came_from_itself, is_operative, operative_in, operative_from, operative_of, hit_at, Segment, same_location, with_location, segments_up_to, segments_of}
+use Rattle.path_index.proofs.Common.{◌≡◌, ℕ, zero, suc, ◌+◌, ◌-◌, ◌<◌, ◌≤◌, ◌==◌, nat_lt, Bool, true, false, not, ◌&&◌, ◌||◌, if◌then◌else◌, List, [], ◌∷◌, ◌++◌, Option, None, Some, All, map, filter, take, drop, length, get_or, replicate, refl, sym, ap, subst, ◌∙◌, append-nil, arith, cases_lt, inl, inr, eq-eqb, ne_eqb, length-map, length-replicate, get_or-map, get_or-take, take-append-drop, take_at, drop_at, take-map, drop-map, take_more, All-nil, All-cons, All-append, All-replicate, All-head, All-tail, filter-append, DumpValue, record_view, records_by_revision, revisions_from, history_view, History, location, Tree, trees_of, NodeRecord, AreRising, records_in, records_of, history_to, names_below, came_from_itself, is_operative, operative_in, operative_from, operative_of, hit_at, Segment, same_location, with_location, segments_up_to, segments_of}
 use Rattle.std.specs.Prelude.{AllPairs}
+use Rattle.std.proofs.lemmas.List.{get_or_past}
 use Rattle.std.proofs.lemmas.List.Kept.{AllPairs-cons}
 use Rattle.svn_dump.proofs.FirstRevisions.{is_there-take, location-take, origin_of-take}
 use Rattle.svn_dump.proofs.Grouped.{length-records_by_revision, map-records_by_revision}
@@ -23,6 +24,14 @@ revisions_from-up : (low from : ℕ) (counts : List ℕ) → low ≤ from → Al
 revisions_from-up low from [] up = All-nil (λ rev. low ≤ rev)
 revisions_from-up low from (count ∷ counts) up =
     All-append (λ rev. low ≤ rev) (replicate count from) (revisions_from (from + 1) counts) (All-replicate (λ rev. low ≤ rev) count from up) (revisions_from-up low (from + 1) counts (omega arith))
+
+-- and none is past the last
+revisions_from-below : (from : ℕ) (counts : List ℕ) → All (λ rev. rev < from + length counts) (revisions_from from counts)
+revisions_from-below from [] = All-nil (λ rev. rev < from + 0)
+revisions_from-below from (count ∷ counts) =
+    All-append (λ rev. rev < from + length (count ∷ counts)) (replicate count from) (revisions_from (from + 1) counts)
+    (All-replicate (λ rev. rev < from + length (count ∷ counts)) count from (omega arith))
+    (λ k d within. let below = revisions_from-below (from + 1) counts k d within in omega (arith, below))
 
 rising_more : (count from : ℕ) (revs : List ℕ) → All (λ rev. from ≤ rev) revs → AllPairs (λ rev later. rev ≤ later) revs
     → AllPairs (λ rev later. rev ≤ later) (replicate count from ++ revs)
@@ -108,6 +117,26 @@ module _ (dump : DumpValue) (revisions : map (λ each. each.rev) dump.records �
       ap (map record_view) (of_revision-records_by_revision 0 dump.counts dump.records revisions rev rev within (omega arith))
       ∙ sym (get_or-map (map record_view) groups rev [] [] (omega (arith, length-records_by_revision dump.counts dump.records)))
       ∙ ap (λ history. get_or history rev []) (map-records_by_revision record_view dump.counts dump.records)
+
+  -- past the youngest revision there are none
+  records_of-past : (rev : ℕ) → length dump.counts ≤ rev → records_of dump.records rev ≡ []
+  records_of-past rev past =
+      ap (map record_view)
+      (filter_none (λ each. each.rev == rev) dump.records
+      (λ k d within.
+      let below = All-from_map (λ each. each < 0 + length dump.counts) (λ each. each.rev) dump.records
+      (subst (All (λ each. each < 0 + length dump.counts)) (sym revisions) (revisions_from-below 0 dump.counts)) k d within in
+      ne_eqb _ rev (λ e. omega (arith, e, below))))
+
+  -- so the records with the number of any revision are those that the history has in it
+  pub records_of-history_view : (rev : ℕ) → records_of dump.records rev ≡ records_in (history_view dump) rev
+  records_of-history_view rev =
+      elim (cases_lt rev (length dump.counts)) [
+        | inl within ↦ records_of-records_by_revision rev within
+        | inr past ↦
+            records_of-past rev past
+            ∙ sym (get_or_past (history_view dump) rev [] (omega (arith, past, length-records_by_revision dump.counts (map record_view dump.records))))
+      ]
 
   one_more : (rev : ℕ) → rev < length dump.counts → take (rev + 1) (history_view dump) ≡ take rev (history_view dump) ++ records_of dump.records rev ∷ []
   one_more rev within =

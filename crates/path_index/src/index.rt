@@ -4,7 +4,7 @@ ghost use Rattle.path_index.specs.History.{AreRising};
 ghost use Rattle.path_index.specs.Index.{AreHitsInRange, AreHitsOf, AreMaximal, AreSegmentsOf, IsThere, IsWhole, gap_between, location_in};
 ghost use Rattle.path_index.specs.Joining.{records_up_to_end};
 ghost use Rattle.path_index.specs.LastSet.{IsLastSet, KeepsPath, origin_in};
-ghost use Rattle.path_index.specs.NamedRevisions.{AddsOperative};
+ghost use Rattle.path_index.specs.NamedRevisions.{named_revisions, AddsOperative};
 ghost use Rattle.path_index.specs.Range.{is_in_range};
 ghost use Rattle.path_index.specs.RecordEffect.{origin_view};
 ghost use Rattle.path_index.specs.Span.{IsSpan};
@@ -12,7 +12,7 @@ ghost use Rattle.path_index.specs.Span.{IsSpan};
 use crate::last_set::last_set;
 use crate::records::Records;
 use crate::records_by_path::RecordsByPath;
-use crate::segment::{Hit, RevisionRange, Segment};
+use crate::segment::{Hit, RevisionRange, Segment, revisions_of};
 use crate::span::Span;
 use std::alloc::{AllocError, Global};
 use std::marker::Model;
@@ -219,6 +219,16 @@ impl Index {
             }
         }
         Ok(hits)
+    }
+
+    /// The revisions after `above` and up to `up_to` in which a record names the path or a path below it, the newest
+    /// first.
+    pub fn named_in(&self, path: &Path, above: u32, up_to: u32) -> Result<Vec<u32>, AllocError>
+        ensures { IfOk result (λ revs. revs.items ≡ named_revisions path.now above up_to self.now.records) }
+    {
+        let mut hits = Vec::new(self.records.allocator());
+        self.by_path.push_named(&mut hits, 0, path, above, up_to)?;
+        revisions_of(self.records.allocator(), hits.as_slice())
     }
 
     /// Appends the operative revisions of the path of a segment that are in a range, the newest first.

@@ -21,4 +21,4 @@ mod span;
 mod sparse_numbers;
 
 pub use index::Index;
-pub use segment::{Hit, RevisionRange, Segment};
+pub use segment::{Hit, RevisionRange, Segment, revisions_of};

@@ -1,5 +1,8 @@
 //! Where a path stood, and the operative revisions there.
+ghost use Rattle.std.specs.Prelude.{◌≡◌, map, IfOk};
+ghost use Rattle.path_index.specs.declared.segment.Hit.{Hit as KeptHit};
 
+use std::alloc::{AllocError, Global};
 use svn_path::Path;
 
 /// A location segment of a path: the neighbouring revisions from `lo` to `hi`, in which it stood at one location, or
@@ -20,3 +23,10 @@ pub struct Hit {
 
 /// The first and the last revision of a range.
 pub type RevisionRange = (u32, u32);
+
+/// The revisions of hits, in their order.
+pub fn revisions_of(alloc: Global, hits: &[Hit]) -> Result<Vec<u32>, AllocError>
+    ensures { IfOk result (λ revs. revs.items ≡ map (λ (hit : KeptHit). hit.rev) hits.now) }
+{
+    hits.iter().map(|hit| hit.rev).collect(alloc)
+}

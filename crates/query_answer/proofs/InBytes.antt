@@ -1,6 +1,13 @@
 -- The history of a dump by numbers and by bytes: what holds of the one holds of the other, renamed.
-use Rattle.query_answer.proofs.Common.{◌≡◌, ℕ, zero, suc, ◌+◌, ◌<◌, Bool, true, false, List, [], ◌∷◌, All, map, length, take, bytes_eq, is_some, Option, Some, None, option_map, if◌then◌else◌, refl, sym, ap, ◌∙◌, subst, arith, length-map, All-cons, All-get_or, All-head, All-nil, All-tail, history_to, trees_to, operative_of, Segment, rename_segment, segments_up_to, same_location, segments_of, with_location, IsThere, IsWhole, segments_of-rename, IsComponent, name_of, same_name, components_of, HasUnknown, IsPathOf, NameId, bytes_eq-name_of, bytes_eq-unknown, DumpValue, IsDump, history_view, history_in_bytes, record_view, text_of, location, Tree, is_there, tree_of, trees_of, ValueId, length-trees_of, rename_tree, trees_of-rename, tree_of-rename, is_there-rename, tree_of_unnamed, IsLocationOf, nearest, nearest_from, index_of_dump, trees_in_bytes}
+use Rattle.query_answer.proofs.Common.{◌≡◌, ℕ, zero, suc, ◌+◌, ◌<◌, Bool, true, false, List, [], ◌∷◌, All, map, length, take, bytes_eq, is_some, Option, Some, None, option_map, if◌then◌else◌, refl, sym, ap, ◌∙◌, subst, arith, inl, inr, cases_Bool, cases_lt, false_from_ne_true, length-map, All-cons, All-get_or, All-head, All-nil, All-tail, history_to, trees_to, operative_of, Segment, rename_segment, segments_up_to, same_location, segments_of, with_location, IsThere, IsWhole, segments_of-rename, IsComponent, parts_of, name_of, same_name, components_of, HasUnknown, IsPathOf, NameId, bytes_eq-name_of, bytes_eq-unknown, DumpValue, IsDump, history_view, history_in_bytes, record_view, text_of, location, Tree, is_there, tree_of, trees_of, ValueId, length-trees_of, rename_tree, trees_of-rename, tree_of-rename, is_there-rename, tree_of_unnamed, IsLocationOf, nearest, nearest_from, index_of_dump, trees_in_bytes}
 use Rattle.path_index.proofs.Histories.{AreRising-from_revisions, history_to-take, operative_of-take, segments_of-take, segments_of-up}
+use Rattle.std.proofs.Common.{add-one, replicate, true≢false}
+use Rattle.std.proofs.lemmas.List.{get_or_past}
+use Rattle.std.proofs.lemmas.List.Folds.{Any-from_list_any}
+use Rattle.std.proofs.lemmas.Slice.Eq.{bytes_eq-Decides}
+use Rattle.std.specs.List.{list_any}
+use Rattle.svn_path.proofs.Components.{components-parts_of}
+use Rattle.svn_path.specs.Components.{is_dot}
 use Rattle.svn_dump.specs.Fault.{first_fault}
 use Rattle.svn_dump.proofs.FirstRevisions.{is_there-take, location-take}
 use Rattle.svn_dump.proofs.Grouped.{length-records_by_revision}
@@ -131,6 +138,31 @@ module _ (dump : DumpValue) (kept : IsDump dump) where
       let component : IsComponent part = subst IsComponent at (All-get_or IsComponent parts k part within components) in
       ap (λ all. is_there bytes_eq (tree_of all rev) parts) trees-renamed
       ∙ ap is_some (tree_of_unnamed name text bytes_eq part (λ id. bytes_eq-unknown dump.names part component lacked id.0) trees_by_number parts rev (k, within, at))
+
+  -- `.` and `..` are no names
+  not_dot-name : (number : ℕ) → is_dot (name_of dump.names number) ≡ false
+  not_dot-name number = elim (cases_lt number (length dump.names)) [
+    | inl within ↦ (kept.names.components number (replicate (number + 1) 47) within).not_dot
+    | inr past ↦ ap is_dot (get_or_past dump.names number (replicate (number + 1) 47) past) ∙ slashes number
+  ]
+    where
+      slashes : (n : ℕ) → is_dot (replicate (n + 1) 47) ≡ false
+      slashes n = rw add-one refl
+
+  dots-in_bytes : (parts : List (List ℕ)) (rev : ℕ) → list_any is_dot parts ≡ true → is_there bytes_eq (tree_of (trees_in_bytes dump) rev) parts ≡ false
+  dots-in_bytes parts rev dots =
+      let (k, part, within, at, dot) = Any-from_list_any is_dot parts dots in
+      let other = λ (id : NameId). false_from_ne_true (bytes_eq (name id) part)
+      (λ same. true≢false (sym (ap is_dot ((bytes_eq-Decides (name id) part).0 same) ∙ dot) ∙ not_dot-name id.0)) in
+      ap (λ all. is_there bytes_eq (tree_of all rev) parts) trees-renamed
+      ∙ ap is_some (tree_of_unnamed name text bytes_eq part other trees_by_number parts rev (k, within, at))
+
+  -- the parts of bytes of which one is no name are in no tree
+  pub unknown-parts_of : (bytes : List ℕ) (rev : ℕ) → HasUnknown dump.names (parts_of bytes) → is_there bytes_eq (tree_of (trees_in_bytes dump) rev) (parts_of bytes) ≡ false
+  unknown-parts_of bytes rev unknown = elim (cases_Bool (list_any is_dot (parts_of bytes))) [
+    | inl dots ↦ dots-in_bytes (parts_of bytes) rev dots
+    | inr none ↦ unknown-in_bytes (parts_of bytes) rev (components-parts_of bytes none) unknown
+  ]
 
   -- a path that is there is there for the index
   pub IsThere-there : (path : List NameId) (peg : ℕ) → peg < length dump.counts → is_there same_name (tree_of trees_by_number peg) path ≡ true → IsThere dump.records path peg

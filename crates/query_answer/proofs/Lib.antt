@@ -3,6 +3,7 @@ pub mod AnswerTexts
 mod EffectiveValues
 mod HeldRevisions
 pub mod InBytes
+pub mod LocationsInBytes
 mod NearestMergeinfo
 mod OperativeLocations
 pub mod OriginsInBytes

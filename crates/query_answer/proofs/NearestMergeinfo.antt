@@ -81,7 +81,7 @@ module _ {C M : Type 0} (same : C → C → Bool) (tree : Tree C M) (path : List
 -- ---- as a map finds it
 
 -- the mergeinfo of what stands at a path
-own_mergeinfo-standing : {C M : Type 0} (same : C → C → Bool) (tree : Tree C M) (path : List C)
+pub own_mergeinfo-standing : {C M : Type 0} (same : C → C → Bool) (tree : Tree C M) (path : List C)
     → own_mergeinfo_at same tree path ≡ own_mergeinfo same tree path
 own_mergeinfo-standing {C} {M} same tree path = by (entry_at same tree path)
   where

@@ -7,7 +7,8 @@ use Rattle.std.specs.declared.alloc.Global.{Global}
 use Rattle.path_index.specs.declared.segment.Segment.{Segment}
 use Rattle.svn_dump.proofs.Locations.{location_later}
 use Rattle.svn_dump.proofs.Origins.{OriginsFall-trees_of}
-use Rattle.query_answer.proofs.AnswerTexts.{All-kept, IsThere-IsRepo}
+use Rattle.query_answer.proofs.AnswerTexts.{IsThere-IsRepo}
+use Rattle.query_answer.proofs.LocationsInBytes.{All-kept}
 use Rattle.query_answer.proofs.InBytes.{segments-of_names}
 
 module _ (dump : DumpValue) (index : IndexValue) (kept : MapValue) (ends : List ℕ) (repo : IsRepo dump index kept ends) (path : List NameId) (rev : ℕ)

@@ -17,6 +17,18 @@ module _ {A B : Type 0} (found : A → Option B) (p : A → Bool) (q : B → Boo
   filter-filter_map [] = refl
   filter-filter_map (x ∷ xs) = by_element x xs (filter-filter_map xs) (found x) refl (p x) refl
 
+-- the values that pass are those of the elements whose values pass
+module _ {A B : Type 0} (f : A → B) (p : B → Bool) where
+  by_value : (b : Bool) (x : A) (xs : List A) → map f (if b then x ∷ xs else xs) ≡ (if b then f x ∷ map f xs else map f xs)
+  by_value true x xs = refl
+  by_value false x xs = refl
+
+  pub map-filter : (xs : List A) → map f (filter (λ x. p (f x)) xs) ≡ filter p (map f xs)
+  map-filter [] = refl
+  map-filter (x ∷ xs) =
+      by_value (p (f x)) x (filter (λ x. p (f x)) xs)
+      ∙ ap (λ rest. if p (f x) then f x ∷ rest else rest) (map-filter xs)
+
 -- the elements that pass, the other way round
 module _ {A : Type 0} (p : A → Bool) where
   by_test : (b : Bool) (x : A) (xs : List A)

@@ -1,5 +1,5 @@
 -- What stands at a path by numbers and by bytes.
-use Rattle.query_answer.proofs.Common.{◌≡◌, ℕ, ◌<◌, ◌≤◌, Bool, true, false, if◌then◌else◌, List, [], ◌∷◌, ◌++◌, Option, None, Some, option_map, get_or, length, map, bytes_eq, refl, sym, ap, ◌∙◌, arith, map-append, none-some, entry_at-nil, entry_at-rename, rename_entry, rename_tree, tree_of-rename, tree_of_past, revision_in, Standing, entry_view, standing_at, trees_in_bytes, DumpValue, IsDump, Entry, Tree, entry_at, tree_of, same_name, components_of, NameId, ValueId}
+use Rattle.query_answer.proofs.Common.{◌≡◌, ℕ, ◌<◌, ◌≤◌, Bool, true, false, if◌then◌else◌, List, [], ◌∷◌, ◌++◌, Option, None, Some, option_and_then, option_map, get_or, length, map, bytes_eq, refl, sym, ap, ◌∙◌, arith, map-append, none-some, entry_at-nil, entry_at-rename, rename_entry, rename_tree, tree_of-rename, tree_of_past, revision_in, Standing, own_mergeinfo, own_mergeinfo_at, entry_view, standing_at, trees_in_bytes, DumpValue, IsDump, Entry, Tree, entry_at, tree_of, same_name, components_of, NameId, ValueId}
 use Rattle.std.specs.Prelude.{◌^◌}
 use Rattle.std.proofs.lemmas.List.Elements.{All-contains, Contains-get_or, Contains-push}
 use Rattle.std.proofs.lemmas.Slice.Eq.{bytes_eq-Decides}
@@ -10,8 +10,9 @@ use Rattle.svn_dump.specs.declared.record.Kind.{Kind}
 use Rattle.block_map.specs.Children.{AreChildren, kind_below}
 use Rattle.block_map.specs.declared.entry.Child.{Child}
 use Rattle.block_map.specs.declared.entry.Entry as kept
-use Rattle.query_answer.specs.Standings.{AreChildrenIn, kind_below_in, standing_in, standing_in_bytes}
+use Rattle.query_answer.specs.Standings.{AreChildrenIn, HasNoMergeinfoBelow, kind_below_in, standing_in, standing_in_bytes}
 use Rattle.query_answer.proofs.InBytes.{alike, length-trees_in_bytes, name, text, trees-renamed, trees_by_number}
+use Rattle.query_answer.proofs.NearestMergeinfo.{own_mergeinfo-rename, own_mergeinfo-standing}
 use Rattle.query_answer.proofs.TreePaths.{IsOf-entry}
 
 -- ---- at a path of the dump
@@ -41,18 +42,21 @@ renamed_path {C} name text same is (each ∷ tree) parts found at = by (same_pat
     by true here at later = (each.0, (same_path-is is (map name each.0) parts).0 here)
     by false there at later = later at
 
--- a path that is renamed to another one, with one part more, goes on from it
-split_renamed : {C D : Type 0} (name : C → D) → ((a b : C) → name a ≡ name b → a ≡ b) → (path whole : List C) (part : D) → map name whole ≡ map name path ++ part ∷ []
-    → (last : C) × (name last ≡ part) × (whole ≡ path ++ last ∷ [])
-split_renamed name one [] [] part is = cc
-split_renamed name one [] (c ∷ []) part is = let heads : name c ≡ part = cc in (c, heads, refl)
-split_renamed name one [] (c ∷ d ∷ whole) part is = cc
-split_renamed name one (p ∷ path) [] part is = cc
-split_renamed name one (p ∷ path) (c ∷ whole) part is =
+-- a path that is renamed to another one, with more parts, goes on from it
+split_renamed : {C D : Type 0} (name : C → D) → ((a b : C) → name a ≡ name b → a ≡ b) → (path whole : List C) (parts : List D)
+    → map name whole ≡ map name path ++ parts → (rest : List C) × (map name rest ≡ parts) × (whole ≡ path ++ rest)
+split_renamed name one [] whole parts is = (whole, is, refl)
+split_renamed name one (p ∷ path) [] parts is = cc
+split_renamed name one (p ∷ path) (c ∷ whole) parts is =
     let heads : name c ≡ name p = cc in
-    let tails : map name whole ≡ map name path ++ part ∷ [] = cc in
-    let (last, last_is, rest) = split_renamed name one path whole part tails in
-    (last, last_is, λ i. one c p heads i ∷ rest i)
+    let tails : map name whole ≡ map name path ++ parts = cc in
+    let (rest, rest_is, whole_is) = split_renamed name one path whole parts tails in
+    (rest, rest_is, λ i. one c p heads i ∷ whole_is i)
+
+-- with one part, by its name
+renamed_part : {C D : Type 0} (name : C → D) (path : List C) (part : D) → map name path ≡ part ∷ [] → (last : C) × (name last ≡ part)
+renamed_part name [] part is = cc
+renamed_part name (c ∷ path) part is = let head : name c ≡ part = cc in (c, head)
 
 module _ (dump : DumpValue) (is_dump : IsDump dump) where
   -- different numbers have different names
@@ -62,12 +66,23 @@ module _ (dump : DumpValue) (is_dump : IsDump dump) where
   abbrev tree_by_number : ℕ → Tree NameId ValueId
   tree_by_number rev = tree_of (trees_by_number dump is_dump) rev
 
+  -- the tree of a revision, by bytes
+  tree-renamed : (rev : ℕ) → tree_of (trees_in_bytes dump) rev ≡ rename_tree (name dump is_dump) (text dump is_dump) (tree_by_number rev)
+  tree-renamed rev =
+      ap (λ all. tree_of all rev) (trees-renamed dump is_dump) ∙ tree_of-rename (name dump is_dump) (text dump is_dump) (trees_by_number dump is_dump) rev
+
+  -- a path in it, by bytes, is that of numbers
+  number_path : (rev : ℕ) (parts : List (List ℕ)) (entry : Entry (List ℕ) (List ℕ)) → entry_at bytes_eq (tree_of (trees_in_bytes dump) rev) parts ≡ Some entry
+      → (path : List NameId) × (components_of dump.names path ≡ parts)
+  number_path rev parts entry at =
+      renamed_path (name dump is_dump) (text dump is_dump) bytes_eq IsSame-bytes_eq (tree_by_number rev) parts entry
+      (ap (λ tree. entry_at bytes_eq tree parts) (sym (tree-renamed rev)) ∙ at)
+
   -- what stands at a path, by bytes
   pub standing-in_bytes : (path : List NameId) (rev : ℕ)
       → standing_in dump rev (components_of dump.names path) ≡ option_map (with_text (text dump is_dump)) (standing_at same_name (tree_by_number rev) path)
   standing-in_bytes path rev =
-      ap (λ all. standing_at bytes_eq (tree_of all rev) (map (name dump is_dump) path)) (trees-renamed dump is_dump)
-      ∙ ap (λ tree. standing_at bytes_eq tree (map (name dump is_dump) path)) (tree_of-rename (name dump is_dump) (text dump is_dump) (trees_by_number dump is_dump) rev)
+      ap (λ tree. standing_at bytes_eq tree (map (name dump is_dump) path)) (tree-renamed rev)
       ∙ ap (option_map entry_standing) (entry_at-rename (name dump is_dump) (text dump is_dump) same_name bytes_eq (alike dump is_dump) (tree_by_number rev) path)
       ∙ by (entry_at same_name (tree_by_number rev) path)
     where
@@ -126,19 +141,14 @@ module _ (dump : DumpValue) (is_dump : IsDump dump) where
       parts : List (List ℕ)
       parts = components_of dump.names path ++ part ∷ []
 
-      tree_is : tree_of (trees_in_bytes dump) rev ≡ rename_tree (name dump is_dump) (text dump is_dump) (tree_by_number rev)
-      tree_is =
-          ap (λ all. tree_of all rev) (trees-renamed dump is_dump) ∙ tree_of-rename (name dump is_dump) (text dump is_dump) (trees_by_number dump is_dump) rev
-
       by : (entry : Option (Entry (List ℕ) (List ℕ))) → entry_at bytes_eq (tree_of (trees_in_bytes dump) rev) parts ≡ entry
           → option_map (λ (each : Standing (List ℕ)). each.kind) (option_map entry_standing entry) ≡ Some kind
           → (id : NameId) × (name dump is_dump id ≡ part)
       by None at stands = cc
       by (Some entry) at stands =
-          let (whole, spells) = renamed_path (name dump is_dump) (text dump is_dump) bytes_eq IsSame-bytes_eq (tree_by_number rev) parts entry
-          (ap (λ tree. entry_at bytes_eq tree parts) (sym tree_is) ∙ at) in
-          let (id, is, _) = split_renamed (name dump is_dump) same_number path whole part spells in
-          (id, is)
+          let (whole, spells) = number_path rev parts entry at in
+          let (rest, rest_is, _) = split_renamed (name dump is_dump) same_number path whole (part ∷ []) spells in
+          renamed_part (name dump is_dump) rest part rest_is
 
   -- so the children by numbers are those by bytes
   pub AreChildrenIn-children : (path : List NameId) (rev : ℕ) (children : List Child) → AreChildren (by_number rev) path children → AreChildrenIn dump path rev children
@@ -167,3 +177,28 @@ module _ (dump : DumpValue) (is_dump : IsDump dump) where
         let never : None ≡ Some kind = sym (ap (option_map (λ (each : Standing (List ℕ)). each.kind)) none) ∙ stands in
         cc;
   }
+
+  -- ---- mergeinfo at a path or below it
+
+  -- where the numbers have none the bytes have none
+  pub HasNoMergeinfoBelow-none : (path : List NameId) (rev : ℕ) → ((rest : List NameId) → own_mergeinfo_at same_name (revision_in dump rev) (path ++ rest) ≡ None)
+      → HasNoMergeinfoBelow dump path rev
+  HasNoMergeinfoBelow-none path rev none = λ rest. by rest (entry_at bytes_eq (tree_of (trees_in_bytes dump) rev) (components_of dump.names path ++ rest)) refl
+    where
+      by : (rest : List (List ℕ)) (entry : Option (Entry (List ℕ) (List ℕ))) → entry_at bytes_eq (tree_of (trees_in_bytes dump) rev) (components_of dump.names path ++ rest) ≡ entry
+          → own_mergeinfo bytes_eq (tree_of (trees_in_bytes dump) rev) (components_of dump.names path ++ rest) ≡ None
+      by rest None at = ap (option_and_then (λ (each : Entry (List ℕ) (List ℕ)). each.mergeinfo)) at
+      by rest (Some entry) at =
+          let (whole, spells) = number_path rev (components_of dump.names path ++ rest) entry at in
+          let (more, _, whole_is) = split_renamed (name dump is_dump) same_number path whole rest spells in
+          ap (λ tree. own_mergeinfo bytes_eq tree (components_of dump.names path ++ rest)) (tree-renamed rev)
+          ∙ ap (own_mergeinfo bytes_eq (rename_tree (name dump is_dump) (text dump is_dump) (tree_by_number rev))) (sym spells ∙ ap (map (name dump is_dump)) whole_is)
+          ∙ own_mergeinfo-rename (name dump is_dump) (text dump is_dump) same_name bytes_eq (alike dump is_dump) (tree_by_number rev) (path ++ more)
+          ∙ ap (option_map (text dump is_dump)) (sym (own_mergeinfo-standing same_name (tree_by_number rev) (path ++ more)) ∙ none more)
+
+  -- and there is none past the youngest revision
+  pub HasNoMergeinfoBelow-past : (path : List NameId) (rev : ℕ) → length dump.counts ≤ rev → HasNoMergeinfoBelow dump path rev
+  HasNoMergeinfoBelow-past path rev past = λ rest.
+      ap (λ tree. own_mergeinfo bytes_eq tree (components_of dump.names path ++ rest))
+      (tree_of_past (trees_in_bytes dump) rev (omega (arith, past, length-trees_in_bytes dump is_dump)))
+      ∙ ap (option_and_then (λ (each : Entry (List ℕ) (List ℕ)). each.mergeinfo)) (entry_at-nil bytes_eq (components_of dump.names path ++ rest))

@@ -2,6 +2,7 @@ pub mod Answer
 pub mod Effective
 pub mod Held
 pub mod HeldValue
+pub mod LocationsInBytes
 pub mod Merged
 pub mod NearestValue
 pub mod OriginsInBytes

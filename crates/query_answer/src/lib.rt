@@ -27,9 +27,11 @@ mod unanswered;
 mod verbs;
 
 pub use answers::{Answer, Effective, MergedRevision, append_head};
+pub use path_index::{RevisionRange, Segment};
 pub use peg::Peg;
 pub use printed_mergeinfo::PrintedMergeinfo;
 pub use query::Query;
+pub use range::read_range;
 pub use repo::Repo;
 pub use status::Status;
 pub use target::PathRev;

@@ -6,7 +6,7 @@ use path_index::RevisionRange;
 use svn_text::{GREATEST_REVISION, number_up_to, split_at_byte};
 
 /// The first revision and the last one of a range `LO:HI`, unless the first is above the last.
-pub(crate) fn read_range(field: &[u8]) -> Option<RevisionRange>
+pub fn read_range(field: &[u8]) -> Option<RevisionRange>
     ensures { result ≡ range_of field.now }
 {
     let (lo, hi) = split_at_byte(b':', field)?;

@@ -1,22 +1,25 @@
 //! A history that is ready to be asked.
-ghost use Rattle.std.specs.Prelude.{◌≡◌, ◌+◌, ◌<◌, [], All, length, map, option_map, slice_get, slice_index_or, sum, take, None, Some, IfErr, IfOk, IfSome};
-ghost use Rattle.svn_path.specs.Path.{components_of, same_name};
-ghost use Rattle.svn_dump.specs.Dump.{IsDump, IsRecordOf, history_in_bytes, history_view, record_view};
+ghost use Rattle.std.specs.Prelude.{◌≡◌, ◌+◌, ◌<◌, [], All, length, map, option_map, slice_get, slice_index_or, sum, take, None, Some, IfErr, IfOk, IfSome, IsFalse};
+ghost use Rattle.svn_path.specs.Components.{parts_of};
+ghost use Rattle.svn_path.specs.Path.{components_of, same_name, IsPathOf};
+ghost use Rattle.svn_dump.specs.Dump.{IsDump, IsRecordOf, history_in_bytes, history_view, record_view, text_of};
 ghost use Rattle.svn_dump.specs.Fault.{first_fault};
 ghost use Rattle.block_map.specs.Ends.{ends_of};
 ghost use Rattle.block_map.specs.Map.{IsMapOf};
 ghost use Rattle.path_index.specs.Index.{location_in};
 ghost use Rattle.path_index.specs.LastSet.{IsLastSet};
+ghost use Rattle.query_answer.specs.Answer.{segments_in_bytes, HasPathOf};
+ghost use Rattle.query_answer.specs.LocationsInBytes.{location_of_path, named_in_bytes, operative_in_bytes, segments_of_path};
 ghost use Rattle.query_answer.specs.OriginsInBytes.{origin_in_bytes, origin_of_path, KeepsPathIn};
 ghost use Rattle.query_answer.specs.Repo.{index_of_dump};
-ghost use Rattle.query_answer.specs.Standings.{AreChildrenIn, standing_in, standing_in_bytes};
+ghost use Rattle.query_answer.specs.Standings.{AreChildrenIn, HasNoMergeinfoBelow, IsNowhere, own_text_in, standing_in, standing_in_bytes};
 
 use crate::peg::Peg;
 use crate::status::Status;
 use crate::target::{PathRev, Target};
 use crate::unanswered::Unanswered;
 use block_map::{Child, Ends, Entry, Map, Nearest};
-use path_index::{Hit, Index, RevisionRange, Segment};
+use path_index::{Hit, Index, RevisionRange, Segment, revisions_of};
 use std::alloc::{AllocError, Global};
 use std::marker::Model;
 use svn_dump::{Dump, NodeRecord, Origin, ValueId};
@@ -88,6 +91,7 @@ impl Repo {
     pub fn names(&self) -> &Names
         ensures value { result.now ≡ self.now.names }
         ensures kept { IsDump self.now }
+        ensures lawful { first_fault same_name (history_view self.now) ≡ None }
     {
         self.dump.names()
     }
@@ -130,6 +134,19 @@ impl Repo {
     {
         let (at, _) = self.look_up(alloc, peg)?;
         Ok(at)
+    }
+
+    /// The path of these bytes; none, if a component is no name of the dump, and then no revision has the path.
+    pub fn path_named(&self, alloc: Global, path: &[u8]) -> Result<Option<Path>, AllocError>
+        ensures of_names { IfOk result (λ found. IfSome found (IsPathOf self.now.names)) }
+        ensures spells { IfOk result (λ found. IfSome found (λ each.
+            components_of self.now.names each ≡ parts_of path.now)) }
+        ensures nowhere { IfOk result (λ found. found ≡ None → IsNowhere self.now (parts_of path.now)) }
+    {
+        match Path::look_up(alloc, self.dump.names(), path)? {
+            Lookup::Known(path) => Ok(Some(path)),
+            Lookup::Unknown => Ok(None),
+        }
     }
 
     /// The path of a peg in its revision.
@@ -190,6 +207,38 @@ impl Repo {
         self.map.children(self.ends.at(rev), path)
     }
 
+    /// Whether the path or a path below it may have mergeinfo in a revision. Past the youngest one none has.
+    pub fn may_have_mergeinfo(&self, path: &Path, rev: u32) -> Result<bool, AllocError>
+        ensures { IfOk result (λ may. IsFalse may → HasNoMergeinfoBelow self.now path.now rev) }
+    {
+        if rev as usize >= self.dump.counts().len() {
+            return Ok(false);
+        }
+        self.map.may_have_mergeinfo(self.ends.at(rev), path)
+    }
+
+    /// The text of the mergeinfo that a path has itself in a revision.
+    pub fn own_mergeinfo(&self, path: &Path, rev: u32) -> Result<Option<&[u8]>, AllocError>
+        ensures { IfOk result (λ text. option_map (λ lent. lent.now) text
+            ≡ own_text_in self.now rev (components_of self.now.names path.now)) }
+    {
+        match self.entry(path, rev)? {
+            Some(Entry { mi: Some(id), .. }) => Ok(Some(self.text(id))),
+            _ => Ok(None),
+        }
+    }
+
+    /// The mergeinfo text of a number; nothing, if the dump has no text of this number.
+    fn text(&self, id: ValueId) -> &[u8]
+        ensures { result.now ≡ text_of self.now.values id.0 }
+    {
+        if (id.0 as usize) < self.dump.values() {
+            self.dump.value(id)
+        } else {
+            b"".as_slice()
+        }
+    }
+
     /// A mergeinfo text of the dump.
     pub(crate) fn mergeinfo_text(&self, id: ValueId) -> &[u8]
         requires { id.0 < length self.now.values }
@@ -199,19 +248,36 @@ impl Repo {
     }
 
     /// Where a path was located in a revision: nowhere in one above its own.
-    pub(crate) fn locate(&self, at: &PathRev, rev: u32) -> Result<Option<Path>, AllocError>
+    pub fn locate(&self, at: &PathRev, rev: u32) -> Result<Option<Path>, AllocError>
         requires { IsPathIn self.now at.now }
-        ensures { IfOk result (λ found. found ≡ location_in self.now.records at.now.path at.now.rev rev) }
+        ensures by_number { IfOk result (λ found.
+            found ≡ location_in self.now.records at.now.path at.now.rev rev) }
+        ensures in_bytes { IfOk result (λ found.
+            option_map (components_of self.now.names) found ≡ location_of_path self.now at.now rev) }
+        ensures there { IfOk result (λ found. IfSome found (λ path. IsPathIn self.now
+            (record { path = path; rev = rev }))) }
     {
         self.index.locate(&at.path, at.rev, rev)
     }
 
     /// The location segments of a path.
-    pub(crate) fn segments(&self, at: &PathRev) -> Result<Vec<Segment>, AllocError>
+    pub fn segments(&self, at: &PathRev) -> Result<Vec<Segment>, AllocError>
         requires { IsPathIn self.now at.now }
-        ensures { IfOk result (λ segments. AreSegmentsIn self.now at.now.path at.now.rev segments.items) }
+        ensures by_number { IfOk result (λ segments.
+            AreSegmentsIn self.now at.now.path at.now.rev segments.items) }
+        ensures in_bytes { IfOk result (λ segments.
+            segments_in_bytes self.now.names segments.items ≡ segments_of_path self.now at.now) }
+        ensures of_names { IfOk result (λ segments. All (HasPathOf self.now.names) segments.items) }
     {
         self.index.segments(&at.path, at.rev)
+    }
+
+    /// The revisions after `above` and up to `up_to` in which a record names the path or a path below it, the newest
+    /// first. There are none past the youngest revision.
+    pub fn named_in(&self, path: &Path, above: u32, up_to: u32) -> Result<Vec<u32>, AllocError>
+        ensures { IfOk result (λ revs. revs.items ≡ named_in_bytes self.now path.now above up_to) }
+    {
+        self.index.named_in(path, above, up_to)
     }
 
     /// The operative revisions of the segments of a path in a range, each in its segment; without a range, all of them.
@@ -223,6 +289,21 @@ impl Repo {
         ensures { IfOk result (λ hits. AreHitsIn self.now segments.now range hits.items) }
     {
         self.index.operative_in(segments, range)
+    }
+
+    /// The revisions of a range, with both its ends, that are operative on the location of the path in them, the newest
+    /// first.
+    pub fn operative_revisions(
+        &self,
+        at: &PathRev,
+        range: RevisionRange,
+    ) -> Result<Vec<u32>, AllocError>
+        requires { IsPathIn self.now at.now }
+        ensures { IfOk result (λ revs. revs.items ≡ operative_in_bytes self.now at.now range) }
+    {
+        let segments = self.segments(at)?;
+        let hits = self.operative(segments.as_slice(), Some(range))?;
+        revisions_of(self.map.allocator(), hits.as_slice())
     }
 
     /// The records of a revision, in their order.
@@ -263,7 +344,8 @@ impl Repo {
     /// Where the path of a revision came from.
     pub fn origin(&self, path: &Path, rev: u32) -> Result<Option<Origin>, AllocError>
         requires { IsPathIn self.now (record { path = path.now; rev = rev }) }
-        ensures origin { IfOk result (λ origin. origin_in_bytes self.now origin ≡ origin_of_path self.now path.now rev) }
+        ensures origin { IfOk result (λ origin.
+            origin_in_bytes self.now origin ≡ origin_of_path self.now path.now rev) }
         ensures there { IfOk result (λ origin. IfSome origin (λ from. IsPathIn self.now
             (record { path = from.path; rev = from.rev }))) }
     {

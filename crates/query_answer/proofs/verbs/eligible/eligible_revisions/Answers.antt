@@ -12,14 +12,14 @@ returns-clause-answer c =
     let segments = c.in_ok-segments.segments.items in
     let range = c.args.range in
     let hits = c.in_ok-hits.hits.items in
-    let so = c.in_ok-segments.ensures in
+    let so = c.in_ok-segments.ensures.by_number in
     let has = has_in c.in_ok-ranges.ranges in
     let located = location_in dump.records target.path target.rev in
     let hits_in : AreHitsIn dump segments range hits = rw c.deref.ensures.value at c.in_ok-hits.ensures in
     let ranges : map lent_ranges c.in_ok-ranges.ranges.by_segment.items ≡ map (held_ranges_in dump.names held) segments =
     rw (← c.deref-2.ensures.value, ← c.names.ensures.value) c.in_ok-ranges.ensures.ranges in
     let has_is = has_in-held dump.names c.requires.source.kept.names held c.requires.held c.in_ok-ranges.ranges segments ranges c.in_ok-ranges.ensures.inherited so.of_names in
-    let tells : TellsLocations located c.deref-4.result.now = rw c.deref-4.ensures.value (TellsLocations-AreSegmentsIn dump target.path target.rev c.in_ok-own.own.items c.in_ok-own.ensures) in
+    let tells : TellsLocations located c.deref-4.result.now = rw c.deref-4.ensures.value (TellsLocations-AreSegmentsIn dump target.path target.rev c.in_ok-own.own.items c.in_ok-own.ensures.by_number) in
     record {
       names_of = tt;
       same = ap (λ found. ok_answer (map eligible_line found))

@@ -8,4 +8,4 @@ returns-in_err-at c =
     rw (errs, same) (HasAnswer-peg_refused c.args.repo.now c.args.peg.now c.in_err-at.field-0.0 c.in_err-at.ensures.refused (λ found. ok_answer (locate_lines (trees_in_bytes c.args.repo.now) c.args.rev found)))
 
 pub returns : goal.returns
-returns c = IsAnswer-Location c.args.repo.now c.args.peg.now c.in_ok-at.at c.in_ok-at.ensures.found c.args.rev c.in_ok-locate.field-0 c.in_ok-locate.ensures
+returns c = IsAnswer-Location c.args.repo.now c.args.peg.now c.in_ok-at.at c.in_ok-at.ensures.found c.args.rev c.in_ok-locate.field-0 c.in_ok-locate.ensures.by_number

@@ -14,7 +14,7 @@ returns c =
     let found = c.in_ok-at.ensures.found in
     let segments = c.in_ok-segments.segments in
     let hits = c.in_ok-hits.hits in
-    let so = c.in_ok-segments.ensures in
+    let so = c.in_ok-segments.ensures.by_number in
     let hits_in : AreHitsIn dump segments.items c.args.range hits.items = rw c.as_slice.ensures.value at c.in_ok-hits.ensures in
     IsAnswer-Log dump c.args.peg.now c.in_ok-at.at found segments so.exact so.maximal c.args.range hits
     (hits_in c.in_ok-at.at.path c.in_ok-at.at.rev found.is_in.there so)

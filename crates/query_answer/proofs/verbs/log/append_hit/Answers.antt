@@ -1,5 +1,6 @@
 use Rattle.query_answer.proofs.Common.{◌≡◌, ◌++◌, ap, sym, ◌∙◌, option_map, codes, decimal, common_steps, arith, components_of, line_text, location_line}
-use Rattle.query_answer.proofs.AnswerTexts.{location_line-lent, path_at-in_bytes}
+use Rattle.query_answer.proofs.AnswerTexts.{location_line-lent}
+use Rattle.query_answer.proofs.LocationsInBytes.{path_at-in_bytes}
 use Rattle.query_answer.proofs.verbs.log.append_hit.Goals as goal
 
 pub returns-clause-ok : goal.returns-clause-ok

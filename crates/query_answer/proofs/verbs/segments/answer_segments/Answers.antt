@@ -8,4 +8,4 @@ returns-in_err-at c =
     rw (errs, same) (HasAnswer-peg_refused c.args.repo.now c.args.peg.now c.in_err-at.field-0.0 c.in_err-at.ensures.refused (λ found. ok_answer (segments_lines (trees_in_bytes c.args.repo.now) found)))
 
 pub returns : goal.returns
-returns c = IsAnswer-Segments c.args.repo.now c.args.peg.now c.in_ok-at.at c.in_ok-at.ensures.found c.in_ok-segments.field-0 c.in_ok-segments.ensures.exact
+returns c = IsAnswer-Segments c.args.repo.now c.args.peg.now c.in_ok-at.at c.in_ok-at.ensures.found c.in_ok-segments.field-0 c.in_ok-segments.ensures.by_number.exact
