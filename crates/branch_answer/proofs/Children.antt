@@ -1,20 +1,22 @@
 -- The children of a path in the order of their names: what is found among them, and that they are those of the tree.
-use Rattle.std.proofs.Common.{◌≡◌, ℕ, zero, suc, ◌∙◌, ◌++◌, true, false, cond, List, [], ◌∷◌, Option, None, Some, Bor, inl, inr, refl, sym, ap, subst, arith, bytes_eq, is_some, option_map, if◌then◌else◌}
+use Rattle.std.proofs.Common.{◌≡◌, ◌≢◌, ℕ, zero, suc, ◌<◌, ◌∙◌, ◌++◌, ◌&&◌, Bool, true, false, cond, List, [], ◌∷◌, Option, None, Some, All, Bor, inl, inr, refl, sym, ap, subst, arith, bytes_eq, get_or, is_some, length, option_map, if◌then◌else◌}
 use Rattle.std.proofs.lemmas.Bool.{both_ways, cases_Bool, false_from_ne_true}
-use Rattle.std.proofs.lemmas.Cmp.{nat_list_cmp_total}
-use Rattle.std.proofs.lemmas.List.{map_push}
-use Rattle.std.proofs.lemmas.List.Sums.{fold_push}
+use Rattle.std.proofs.lemmas.Cmp.{nat_list_cmp_total, nat_list_eq_equiv}
+use Rattle.std.proofs.lemmas.List.{get_or-map, length-map}
+use Rattle.std.proofs.lemmas.List.Elements.{All-contains, All-contains_itself, All-map, All-weaker}
+use Rattle.std.proofs.lemmas.List.Sorted.{All-permutation, Contains-permutation, ranks_by, sorted_far}
+use Rattle.std.proofs.lemmas.Map.Keys.{IsDistinct-IsPermutation, IsDistinct-from_apart, apart_from_distinct}
 use Rattle.std.proofs.lemmas.Map.Text.{is_eq-slice_cmp}
 use Rattle.std.proofs.lemmas.Option.{none-some, same_Some}
 use Rattle.std.specs.BTreeMap.{insert_entry}
 use Rattle.std.specs.Cmp.Lexicographic.{slice_cmp}
 use Rattle.std.specs.FinMap.{nat_cmp-IsAntisymmetric, slice_cmp-IsAntisymmetric}
-use Rattle.std.specs.FinMap.Entries.{by_order, find, find-put, is_sorted, is_sorted-put, put, same_entries}
-use Rattle.std.specs.List.{Contains}
-use Rattle.std.specs.Ordering.{match_ordering, nat_cmp}
+use Rattle.std.specs.FinMap.Entries.{below_all, by_order, find, find-put, is_sorted, is_sorted-put, put, same_entries}
+use Rattle.std.specs.List.{AllPairs, Contains, IsDistinct}
+use Rattle.std.specs.Ordering.{eq_by_cmp, is_lt, match_ordering, nat_cmp, ordering_reverse}
 use Rattle.std.specs.declared.cmp.Ordering.{Ordering}
 use Rattle.std.specs.declared.cmp.Ordering.TheVariants.{Less, Equal, Greater}
-use Rattle.std.specs.Prelude.{T, fold, option_and_then}
+use Rattle.std.specs.Prelude.{T, option_and_then}
 use Rattle.svn_path.proofs.Belows.{below-Some, below-append, same_path-is}
 use Rattle.svn_path.specs.Below.{below, same_path}
 use Rattle.svn_path.specs.Names.{name_of}
@@ -24,13 +26,14 @@ use Rattle.svn_dump.specs.Dump.{DumpValue}
 use Rattle.svn_dump.specs.Tree.{Entry, tree_of}
 unfoldable use Rattle.svn_dump.specs.Tree.{entry_at}
 use Rattle.svn_dump.specs.declared.record.Kind.{Kind}
+use Rattle.svn_dump.specs.declared.record.Kind.TheVariants.{File}
 use Rattle.block_map.proofs.RevisionStates.{standing_of_entry}
 use Rattle.block_map.specs.Standing.{Standing}
 use Rattle.block_map.specs.declared.entry.Child.{Child}
 use Rattle.query_answer.proofs.StandingsInBytes.{IsSame-bytes_eq}
 use Rattle.query_answer.specs.Repo.{trees_in_bytes}
 use Rattle.query_answer.specs.Standings.{AreChildrenIn, kind_below_in}
-use Rattle.branch_answer.specs.KeptChildren.{child_in_bytes, children_in_bytes, entries_in_bytes, sorted_children, with_sorted}
+use Rattle.branch_answer.specs.KeptChildren.{AreInOrder, child_in_bytes, children_in_bytes, entries_in_bytes, entry_in_bytes}
 use Rattle.branch_answer.specs.Listing.{TreeOfBytes, name_below, only_component, with_child}
 unfoldable use Rattle.branch_answer.specs.Listing.{children_of}
 
@@ -46,18 +49,6 @@ abbrev kind_in : Named → List ℕ → Option Kind
 kind_in entries name = find name_cmp name entries
 
 -- ---- one more in its place
-
--- lent names are put in place as their bytes are
-pub entries_in_bytes-insert : (entries : List (Bor (List ℕ) × Kind)) (name : Bor (List ℕ)) (kind : Kind)
-    → entries_in_bytes (insert_entry (λ a b. name_cmp a.now b.now) entries name kind) ≡ insert_entry name_cmp (entries_in_bytes entries) name.now kind
-entries_in_bytes-insert [] name kind = refl
-entries_in_bytes-insert (e ∷ entries) name kind =
-    elim (name_cmp name.now e.0.now) as (λ o. entries_in_bytes (match_ordering o ((name, kind) ∷ e ∷ entries) ((e.0, kind) ∷ entries) (e ∷ insert_entry (λ a b. name_cmp a.now b.now) entries name kind))
-    ≡ match_ordering o ((name.now, kind) ∷ entries_in_bytes (e ∷ entries)) ((e.0.now, kind) ∷ entries_in_bytes entries) ((e.0.now, e.1) ∷ insert_entry name_cmp (entries_in_bytes entries) name.now kind)) [
-      | Less ↦ refl
-      | Equal ↦ refl
-      | Greater ↦ ap (λ more. (e.0.now, e.1) ∷ more) (entries_in_bytes-insert entries name kind)
-    ]
 
 -- std's maps and its finite maps as values put an entry in the same place
 insert_entry-put : (entries : Named) (name : List ℕ) (kind : Kind) → insert_entry name_cmp entries name kind ≡ put name_cmp name kind entries
@@ -79,67 +70,65 @@ kind_in-insert entries name kind each =
     ap (λ all. kind_in all each) (insert_entry-put entries name kind) ∙ find-put name_cmp nat_list_cmp_total each name kind entries
     ∙ ap (λ same. cond same (Some kind) (kind_in entries each)) (is_eq-slice_cmp each name)
 
--- ---- children as they are kept
+-- ---- entries that are sorted
 
-module _ (names : List (List ℕ)) where
-  -- these entries with all children in their places
-  abbrev sorted_from : Named → List Child → Named
-  sorted_from sorted children = fold with_sorted sorted (children_in_bytes names children)
+both : (a b : Bool) → T a → T b → T (a && b)
+both true b p q = q
+both false b p q = absurd p
 
-  abbrev with_one : Named → Child → Named
-  with_one sorted child = with_sorted sorted (child_in_bytes names child)
+-- of two names that differ, of which the second is not below the first, the first is below the second
+below_other : (name other : List ℕ) → is_lt (name_cmp other name) ≡ false → name ≢ other → name_cmp name other ≡ Less
+below_other name other not_below differ = by (name_cmp name other) refl
+  where
+    by : (o : Ordering) → name_cmp name other ≡ o → o ≡ Less
+    by Less is = refl
+    by Equal is = absurd (differ (slice_cmp-IsAntisymmetric nat_cmp-IsAntisymmetric name other is))
+    by Greater is = absurd (both_ways _ not_below (ap is_lt (nat_list_cmp_total.antisymm other name ∙ ap ordering_reverse is)))
 
-  AreSorted-from : (children : List Child) (sorted : Named) → T (is_sorted name_cmp sorted) → T (is_sorted name_cmp (sorted_from sorted children))
-  AreSorted-from [] sorted are = are
-  AreSorted-from (child ∷ children) sorted are =
-      AreSorted-from children (with_one sorted child) (AreSorted-insert sorted (name_of names child.name.0) child.kind are)
+-- lent names with their kinds
+abbrev Lent : Type 0
+Lent = List (Bor (List ℕ) × Kind)
 
-  -- a name that is there stays
-  is_some-with_one : (sorted : Named) (child : Child) (name : List ℕ) → is_some (kind_in sorted name) ≡ true → is_some (kind_in (with_one sorted child) name) ≡ true
-  is_some-with_one sorted child name there =
-      ap is_some (kind_in-insert sorted (name_of names child.name.0) child.kind name)
-      ∙ elim (bytes_eq name (name_of names child.name.0)) as (λ b. is_some (cond b (Some child.kind) (kind_in sorted name)) ≡ true) [ true ↦ refl | false ↦ there ]
+abbrev Rise : Lent → Type 0
+Rise entries = AllPairs (λ one other. name_cmp one.0.now other.0.now ≡ Less) entries
 
-  is_some-from : (children : List Child) (sorted : Named) (name : List ℕ) → is_some (kind_in sorted name) ≡ true → is_some (kind_in (sorted_from sorted children) name) ≡ true
-  is_some-from [] sorted name there = there
-  is_some-from (child ∷ children) sorted name there = is_some-from children (with_one sorted child) name (is_some-with_one sorted child name there)
+below_all-Rise : (name : List ℕ) (entries : Lent) → ((k : ℕ) (d : Bor (List ℕ) × Kind) → k < length entries → name_cmp name (get_or entries k d).0.now ≡ Less)
+    → T (below_all name_cmp name (entries_in_bytes entries))
+below_all-Rise name [] below = tt
+below_all-Rise name (e ∷ entries) below =
+    both (is_lt (name_cmp name e.0.now)) (below_all name_cmp name (entries_in_bytes entries))
+    (subst (λ o. T (is_lt o)) (sym (below 0 e (omega arith))) tt) (below_all-Rise name entries (λ k d within. below (suc k) d (omega (arith, within))))
 
-  -- the name of each child is there
-  is_some-child : (children : List Child) (sorted : Named) (child : Child) → Contains children child → is_some (kind_in (sorted_from sorted children) (name_of names child.name.0)) ≡ true
-  is_some-child [] sorted child (k, below, is) = absurd (omega (arith, below))
-  is_some-child (first ∷ children) sorted child (zero, below, is) =
-      let name = name_of names first.name.0 in
-      let there : is_some (kind_in (with_one sorted first) name) ≡ true =
-      ap is_some (kind_in-insert sorted name first.kind name) ∙ ap (λ b. is_some (cond b (Some first.kind) (kind_in sorted name))) (IsSame-bytes_eq.itself name) in
-      subst (λ (each : Child). is_some (kind_in (sorted_from sorted (first ∷ children)) (name_of names each.name.0)) ≡ true) is (is_some-from children (with_one sorted first) name there)
-  is_some-child (first ∷ children) sorted child (suc k, below, is) = is_some-child children (with_one sorted first) child (k, omega (arith, below), is)
+is_sorted-Rise : (entries : Lent) → Rise entries → T (is_sorted name_cmp (entries_in_bytes entries))
+is_sorted-Rise [] rise = tt
+is_sorted-Rise (e ∷ entries) rise =
+    both (below_all name_cmp e.0.now (entries_in_bytes entries)) (is_sorted name_cmp (entries_in_bytes entries))
+    (below_all-Rise e.0.now entries (λ k d within. rise 0 (suc k) d (omega arith) (omega (arith, within))))
+    (is_sorted-Rise entries (λ i j d before within. rise (suc i) (suc j) d (omega (arith, before)) (omega (arith, within))))
 
-  -- names are found with the kinds that the children have
-  module _ (has : List ℕ → Option Kind) where
-    abbrev HasKinds : Named → Type 0
-    HasKinds entries = (name : List ℕ) (kind : Kind) → kind_in entries name ≡ Some kind → has name ≡ Some kind
+-- a kind that is found at a name is that of an entry
+Contains-kind_in : (entries : Named) (name : List ℕ) (kind : Kind) → kind_in entries name ≡ Some kind → Contains entries (name, kind)
+Contains-kind_in [] name kind found = absurd (none-some kind found)
+Contains-kind_in (e ∷ entries) name kind found = by (eq_by_cmp name_cmp name e.0) refl found (Contains-kind_in entries name kind)
+  where
+    by : (b : Bool) → eq_by_cmp name_cmp name e.0 ≡ b → cond b (Some e.1) (kind_in entries name) ≡ Some kind
+        → (kind_in entries name ≡ Some kind → Contains entries (name, kind)) → Contains (e ∷ entries) (name, kind)
+    by true same is rest =
+        let names : name ≡ e.0 = IsSame-bytes_eq.true_is name e.0 (sym (is_eq-slice_cmp name e.0) ∙ same) in
+        (0, omega arith, λ i. (sym names i, same_Some e.1 kind is i))
+    by false other is rest = let (k, within, at) = rest is in (suc k, omega (arith, within), at)
 
-    HasKinds-with_one : (sorted : Named) (child : Child) → has (name_of names child.name.0) ≡ Some child.kind → HasKinds sorted → HasKinds (with_one sorted child)
-    HasKinds-with_one sorted child sound kinds name kind found =
-        let own = name_of names child.name.0 in
-        let is : cond (bytes_eq name own) (Some child.kind) (kind_in sorted name) ≡ Some kind = sym (kind_in-insert sorted own child.kind name) ∙ found in
-        elim (cases_Bool (bytes_eq name own)) [
-          | inl same ↦ ap has (IsSame-bytes_eq.true_is name own same) ∙ sound ∙ rw same at is
-          | inr other ↦ kinds name kind (rw other at is)
-        ]
-
-    HasKinds-from : (children : List Child) (sorted : Named) → ((child : Child) → Contains children child → has (name_of names child.name.0) ≡ Some child.kind)
-        → HasKinds sorted → HasKinds (sorted_from sorted children)
-    HasKinds-from [] sorted sound kinds = kinds
-    HasKinds-from (child ∷ children) sorted sound kinds =
-        HasKinds-from children (with_one sorted child) (λ each (k, below, is). sound each (suc k, omega (arith, below), is))
-        (HasKinds-with_one sorted child (sound child (zero, omega arith, refl)) kinds)
-
--- one child more
-pub sorted_children-push : (names : List (List ℕ)) (children : List Child) (child : Child)
-    → sorted_children (children_in_bytes names (children ++ child ∷ [])) ≡ with_sorted (sorted_children (children_in_bytes names children)) (child_in_bytes names child)
-sorted_children-push names children child =
-    ap sorted_children (map_push (child_in_bytes names) children child) ∙ fold_push with_sorted [] (children_in_bytes names children) (child_in_bytes names child)
+-- a kind is found at the name of each entry
+is_some-kind_in : (entries : Named) (entry : List ℕ × Kind) → Contains entries entry → is_some (kind_in entries entry.0) ≡ true
+is_some-kind_in [] entry (k, within, is) = absurd (omega (arith, within))
+is_some-kind_in (e ∷ entries) entry (zero, within, is) =
+    let same : eq_by_cmp name_cmp e.0 e.0 ≡ true = is_eq-slice_cmp e.0 e.0 ∙ IsSame-bytes_eq.itself e.0 in
+    subst (λ (each : List ℕ × Kind). is_some (kind_in (e ∷ entries) each.0) ≡ true) is (ap (λ b. is_some (cond b (Some e.1) (kind_in entries e.0))) same)
+is_some-kind_in (e ∷ entries) entry (suc k, within, is) =
+    elim (eq_by_cmp name_cmp entry.0 e.0) as (λ b. is_some (cond b (Some e.1) (kind_in entries entry.0)) ≡ true) [
+      | true ↦ refl
+      | false ↦ is_some-kind_in entries entry (k, omega (arith, within), is)
+    ]
 
 -- ---- children in a tree
 
@@ -217,24 +206,75 @@ kind_in-children_of (each ∷ tree) path name =
 
 -- ---- the children of a path of a dump
 
-module _ (dump : DumpValue) (path : List NameId) (rev : ℕ) (children : List Child) (are : AreChildrenIn dump path rev children) where
-  -- they have the kinds of what stands at their names, and no name is left out
-  kind_in-sorted : (name : List ℕ) → kind_in (sorted_children (children_in_bytes dump.names children)) name ≡ kind_below_in dump rev path name
-  kind_in-sorted name = by (kind_in (sorted_children (children_in_bytes dump.names children)) name) refl (kind_below_in dump rev path name) refl
+abbrev same_names : List ℕ × Kind → List ℕ × Kind → Bool
+same_names one other = bytes_eq one.0 other.0
+
+module _ (dump : DumpValue) (path : List NameId) (rev : ℕ) (children : List Child) (are : AreChildrenIn dump path rev children)
+    (entries : Lent) (order : AreInOrder dump.names children entries) where
+  -- the names of the entries differ, as those of the children do
+  IsDistinct-children : IsDistinct same_names (children_in_bytes dump.names children)
+  IsDistinct-children = IsDistinct-from_apart same_names (children_in_bytes dump.names children) apart
     where
-      by : (found : Option Kind) → kind_in (sorted_children (children_in_bytes dump.names children)) name ≡ found → (stands : Option Kind) → kind_below_in dump rev path name ≡ stands → found ≡ stands
-      by (Some kind) found stands at = sym (HasKinds-from dump.names (kind_below_in dump rev path) children [] are.sound (λ each kind is. absurd (none-some _ is)) name kind found) ∙ at
+      apart : (i j : ℕ) (d : List ℕ × Kind) → i < j → j < length (children_in_bytes dump.names children)
+          → same_names (get_or (children_in_bytes dump.names children) i d) (get_or (children_in_bytes dump.names children) j d) ≡ false
+      apart i j d before within =
+          let first : Child = record { name = record { 0 = 0 }; kind = File } in
+          let in_children : j < length children = omega (arith, within, length-map children (child_in_bytes dump.names)) in
+          let one = get_or-map (child_in_bytes dump.names) children i first d (omega (arith, before, in_children)) in
+          let other = get_or-map (child_in_bytes dump.names) children j first d in_children in
+          (λ k. same_names (one k) (other k))
+          ∙ false_from_ne_true (bytes_eq (name_of dump.names (get_or children i first).name.0) (name_of dump.names (get_or children j first).name.0))
+          (λ same. are.distinct i j first before in_children (IsSame-bytes_eq.true_is _ _ same))
+
+  differ : (i j : ℕ) (d : Bor (List ℕ) × Kind) → i < j → j < length entries → (get_or entries i d).0.now ≢ (get_or entries j d).0.now
+  differ i j d before within same =
+      let distinct = IsDistinct-IsPermutation same_names (λ one other. nat_list_eq_equiv.symm one.0 other.0)
+      (children_in_bytes dump.names children) (entries_in_bytes entries) order.moved IsDistinct-children in
+      let all : j < length (entries_in_bytes entries) = omega (arith, within, length-map entries entry_in_bytes) in
+      let one = get_or-map entry_in_bytes entries i d (entry_in_bytes d) (omega (arith, before, within)) in
+      let other = get_or-map entry_in_bytes entries j d (entry_in_bytes d) within in
+      both_ways _ (apart_from_distinct same_names (entries_in_bytes entries) i j (entry_in_bytes d) distinct before all)
+      ((λ k. same_names (one k) (other k)) ∙ ap (bytes_eq (get_or entries i d).0.now) (sym same) ∙ IsSame-bytes_eq.itself (get_or entries i d).0.now)
+
+  Rise-entries : Rise entries
+  Rise-entries i j d before within =
+      below_other (get_or entries i d).0.now (get_or entries j d).0.now
+      (sorted_far (λ (x y : Bor (List ℕ) × Kind). is_lt (name_cmp x.0.now y.0.now)) (ranks_by nat_list_cmp_total (λ (entry : Bor (List ℕ) × Kind). entry.0.now))
+      entries order.sorted i j d (omega (arith, before)) within)
+      (differ i j d before within)
+
+  -- each entry has the kind of what stands at its name, and no name is left out
+  sound : All (λ (entry : List ℕ × Kind). kind_below_in dump rev path entry.0 ≡ Some entry.1) (entries_in_bytes entries)
+  sound =
+      All-permutation (λ (entry : List ℕ × Kind). kind_below_in dump rev path entry.0 ≡ Some entry.1) (children_in_bytes dump.names children) (entries_in_bytes entries) order.moved
+      (All-map (λ (entry : List ℕ × Kind). kind_below_in dump rev path entry.0 ≡ Some entry.1) (child_in_bytes dump.names) children
+      (All-weaker (Contains children) (λ (child : Child). kind_below_in dump rev path (name_of dump.names child.name.0) ≡ Some child.kind) are.sound children (All-contains_itself children)))
+
+  complete : (child : Child) → Contains children child → Contains (entries_in_bytes entries) (child_in_bytes dump.names child)
+  complete child (k, within, is) =
+      Contains-permutation (children_in_bytes dump.names children) (entries_in_bytes entries) (child_in_bytes dump.names child) order.moved (
+        k,
+        omega (arith, within, length-map children (child_in_bytes dump.names)),
+        get_or-map (child_in_bytes dump.names) children k child (child_in_bytes dump.names child) within ∙ ap (child_in_bytes dump.names) is,
+      )
+
+  kind_in-entries : (name : List ℕ) → kind_in (entries_in_bytes entries) name ≡ kind_below_in dump rev path name
+  kind_in-entries name = by (kind_in (entries_in_bytes entries) name) refl (kind_below_in dump rev path name) refl
+    where
+      by : (found : Option Kind) → kind_in (entries_in_bytes entries) name ≡ found → (stands : Option Kind) → kind_below_in dump rev path name ≡ stands → found ≡ stands
+      by (Some kind) found stands at =
+          sym (All-contains (λ (entry : List ℕ × Kind). kind_below_in dump rev path entry.0 ≡ Some entry.1) (entries_in_bytes entries) (name, kind) sound (Contains-kind_in (entries_in_bytes entries) name kind found)) ∙ at
       by None found None at = refl
       by None found (Some kind) at =
           let (child, among, named, _) = are.complete name kind at in
-          let there = subst (λ each. is_some (kind_in (sorted_children (children_in_bytes dump.names children)) each) ≡ true) named (is_some-child dump.names children [] child among) in
+          let there = subst (λ each. is_some (kind_in (entries_in_bytes entries) each) ≡ true) named (is_some-kind_in (entries_in_bytes entries) (child_in_bytes dump.names child) (complete child among)) in
           absurd (both_ways _ (ap is_some found) there)
 
   -- so they are those of the tree
-  pub sorted_children-are : sorted_children (children_in_bytes dump.names children) ≡ children_of (tree_of (trees_in_bytes dump) rev) (components_of dump.names path)
-  sorted_children-are =
+  pub entries_in_bytes-are : entries_in_bytes entries ≡ children_of (tree_of (trees_in_bytes dump) rev) (components_of dump.names path)
+  entries_in_bytes-are =
       let tree = tree_of (trees_in_bytes dump) rev in
       let above = components_of dump.names path in
-      same_entries name_cmp nat_list_cmp_total (slice_cmp-IsAntisymmetric nat_cmp-IsAntisymmetric) (sorted_children (children_in_bytes dump.names children)) (children_of tree above)
-      (AreSorted-from dump.names children [] tt) (AreSorted-children_of tree above)
-      (λ name. kind_in-sorted name ∙ sym (kind_in-children_of tree above name))
+      same_entries name_cmp nat_list_cmp_total (slice_cmp-IsAntisymmetric nat_cmp-IsAntisymmetric) (entries_in_bytes entries) (children_of tree above)
+      (is_sorted-Rise entries Rise-entries) (AreSorted-children_of tree above)
+      (λ name. kind_in-entries name ∙ sym (kind_in-children_of tree above name))

@@ -25,9 +25,9 @@ use Rattle.svn_dump.specs.declared.record.Act.TheVariants as act
 use Rattle.svn_dump.specs.declared.record.Mi.{Mi}
 use Rattle.svn_dump.specs.declared.record.NodeRecord.{NodeRecord}
 use Rattle.block_map.specs.declared.entry.Entry as kept
-use Rattle.query_answer.proofs.InBytes.{IsThere-there, alike, name, text, there-in_bytes}
+use Rattle.query_answer.proofs.InBytes.{alike, name, text}
 use Rattle.query_answer.proofs.StandingsInBytes.{IsSame-bytes_eq}
-use Rattle.query_answer.specs.Repo.{IsPathIn, trees_in_bytes}
+use Rattle.query_answer.specs.Repo.{trees_in_bytes}
 use Rattle.query_answer.specs.Standings.{standing_in, standing_in_bytes}
 use Rattle.branch_answer.proofs.CameBy.{CameBy, CameBy-tree_of, IsPutBy}
 use Rattle.branch_answer.proofs.EachOnce.{AllStand-trees_of, StandsIn}
@@ -58,16 +58,6 @@ is_there-found dump rev parts found is = by (entry_at bytes_eq (tree_of (trees_i
     by None (Some entry) is = cc
     by (Some entry) None is = cc
     by (Some entry) (Some found) is = refl
-
--- so that path is in the revision for the index
-pub IsPathIn-there : (dump : DumpValue) (path : List NameId) (rev : ℕ) → IsKnownPath dump path rev → is_present dump path rev ≡ true
-    → IsPathIn dump (record { path = path; rev = rev })
-IsPathIn-there dump path rev known there = record {
-  kept = known.kept;
-  of_names = known.of_names;
-  within = known.within;
-  there = IsThere-there dump known.kept path rev known.within (sym (there-in_bytes dump known.kept path rev) ∙ there);
-}
 
 -- ---- where a record puts a path
 

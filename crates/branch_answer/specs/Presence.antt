@@ -36,9 +36,10 @@ pub record IsNewest (dump : DumpValue) (path : List NameId) (rev last : ℕ) : T
   pub there : is_present dump path last ≡ true
   pub gone : IsGone dump path last rev
 
-abbrev pub IsNewestWith : DumpValue → List NameId → ℕ → Option ℕ → Type 0
-IsNewestWith dump path rev None = (each : ℕ) → each ≤ rev → is_present dump path each ≡ false
-IsNewestWith dump path rev (Some last) = IsNewest dump path rev last
+-- the newest one that is not before `lo`, if there is one
+abbrev pub IsNewestWith : DumpValue → List NameId → ℕ → ℕ → Option ℕ → Type 0
+IsNewestWith dump path lo rev None = (each : ℕ) → lo ≤ each → each ≤ rev → is_present dump path each ≡ false
+IsNewestWith dump path lo rev (Some last) = (lo ≤ last) × IsNewest dump path rev last
 
 -- the path is there in the first of two revisions and not in the second one, and does not come back between them
 pub record GoesBetween (dump : DumpValue) (path : List NameId) (with without : ℕ) : Type 0 where

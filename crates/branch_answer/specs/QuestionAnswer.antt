@@ -2,13 +2,17 @@
 use Rattle.std.specs.Prelude.{ℕ, ◌+◌, ◌++◌, nat_le, List, [], ◌∷◌, Option, Some, None, bytes_eq, codes, flat_map, is_some, length, if◌then◌else◌}
 use Rattle.block_map.specs.Standing.{Standing, standing_at}
 use Rattle.svn_text.specs.Line.{line_text}
-use Rattle.svn_dump.specs.Dump.{DumpValue}
+use Rattle.svn_dump.specs.Dump.{DumpValue, history_in_bytes}
 use Rattle.svn_dump.specs.Tree.{tree_of}
-use Rattle.query_answer.specs.Answer.{Answer, TreesOfBytes, answer_head, if_peg_exists, ok_answer, refused_answer}
+use Rattle.svn_dump.specs.Record.{HistoryOfBytes}
+use Rattle.query_answer.specs.Answer.{Answer, TreesOfBytes, answer_head, if_peg_exists, ok_answer, refused_answer, with_effective_mergeinfo}
 use Rattle.query_answer.specs.Peg.{Peg}
 use Rattle.query_answer.specs.Repo.{trees_in_bytes}
 use Rattle.query_answer.specs.declared.status.Status.{Status}
 use Rattle.query_answer.specs.declared.status.Status.TheVariants as status
+use Rattle.branch_answer.specs.Ancestor.{ancestor_line, ancestor_of}
+use Rattle.branch_answer.specs.Explicit.{explicit_lines, explicit_of}
+use Rattle.branch_answer.specs.Holding.{held_in, held_lines}
 use Rattle.branch_answer.specs.Life.{Life, lives_lines, lives_of}
 use Rattle.branch_answer.specs.Listing.{kind_text, list_lines}
 use Rattle.branch_answer.specs.Question as question
@@ -45,17 +49,40 @@ lives_answer trees peg =
     if nat_le (length trees) peg.rev then refused_answer status.NoSuchRevision
     else if_some_life (lives_of trees peg.path peg.rev)
 
+-- ---- `explicit`
+
+abbrev pub explicit_answer : TreesOfBytes → Peg → Answer
+explicit_answer trees peg =
+    if_peg_exists trees peg (ok_answer (explicit_lines (explicit_of (tree_of trees peg.rev) peg.path)))
+
+-- ---- `ancestor`
+
+-- both have to exist, the first one first
+abbrev pub ancestor_answer : TreesOfBytes → Peg → Peg → Answer
+ancestor_answer trees one other =
+    if_peg_exists trees one (if_peg_exists trees other (ok_answer (ancestor_line (ancestor_of trees one other) ∷ [])))
+
+-- ---- `holds`
+
+abbrev pub holds_answer : HistoryOfBytes → TreesOfBytes → Peg → ℕ × ℕ → Answer
+holds_answer history trees peg range =
+    if_peg_exists trees peg
+    (with_effective_mergeinfo trees peg (λ value. ok_answer (held_lines (held_in history trees peg value range))))
+
 -- ---- the answer
 
--- the answer to a question, given the trees of all revisions
-unfoldable pub question_answer : TreesOfBytes → Question → Answer
-question_answer trees question.bad = refused_answer status.BadQuery
-question_answer trees (question.entry peg) = entry_answer trees peg
-question_answer trees (question.list peg) = list_answer trees peg
-question_answer trees (question.lives peg) = lives_answer trees peg
+-- the answer to a question on a history, given its trees
+unfoldable pub question_answer : HistoryOfBytes → TreesOfBytes → Question → Answer
+question_answer history trees question.bad = refused_answer status.BadQuery
+question_answer history trees (question.entry peg) = entry_answer trees peg
+question_answer history trees (question.list peg) = list_answer trees peg
+question_answer history trees (question.lives peg) = lives_answer trees peg
+question_answer history trees (question.explicit peg) = explicit_answer trees peg
+question_answer history trees (question.ancestor one other) = ancestor_answer trees one other
+question_answer history trees (question.holds peg range) = holds_answer history trees peg range
 
 abbrev pub question_answer_in : DumpValue → Question → Answer
-question_answer_in dump question = question_answer (trees_in_bytes dump) question
+question_answer_in dump question = question_answer (history_in_bytes dump) (trees_in_bytes dump) question
 
 -- ---- what is kept of an answer
 

@@ -5,16 +5,22 @@
 //!
 //! ```
 //! if let Some(question) = Question::read(line.as_bytes()) {
-//!     let answer = answer_question(alloc, repo, &question)?;
+//!     let answer = answer_question(alloc, repo, &question, memo, seen)?;
 //!     let written = answer.write(place, out);
 //! }
 //! ```
 #![tactic(auto)]
 
 mod answer;
+mod explicit;
+mod held_revisions;
+mod holding;
+mod holdings;
 mod kind;
 mod life;
 mod moves;
+mod operative;
+mod presence;
 mod question;
 mod questions;
 

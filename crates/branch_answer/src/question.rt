@@ -2,9 +2,10 @@
 ghost use Rattle.std.specs.Prelude.{◌≡◌, option_map};
 ghost use Rattle.std.specs.List.{slice_split};
 ghost use Rattle.query_answer.specs.Query.{is_tab};
-ghost use Rattle.branch_answer.specs.Question.{question_of, question_of_fields, question_of_peg, question_view};
+ghost use Rattle.branch_answer.specs.Question.{ancestor_of, holds_of, question_of, question_of_field, question_of_fields, question_of_peg, question_or_bad, question_view};
 
-use query_answer::Peg;
+use path_index::RevisionRange;
+use query_answer::{Peg, read_range};
 use svn_text::split_at_byte;
 
 /// What a line asks, borrowed from the line.
@@ -18,6 +19,12 @@ pub enum Question<'a> {
     List { of: Peg<'a> },
     /// When a path came to be and when it went, each time up to a revision.
     Lives { of: Peg<'a> },
+    /// Which paths at and below a path have mergeinfo of their own, and what it says.
+    Explicit { of: Peg<'a> },
+    /// The youngest common ancestor of two paths.
+    Ancestor { of: Peg<'a>, other: Peg<'a> },
+    /// Which revisions of a range a path holds.
+    Holds { of: Peg<'a>, range: RevisionRange },
 }
 
 impl<'a> Question<'a> {
@@ -46,8 +53,11 @@ impl<'a> Question<'a> {
         let Some((verb, rest)) = split_at_byte(b'\t', fields) else {
             return Question::Bad;
         };
+        let Some((peg, rest)) = split_at_byte(b'\t', rest) else {
+            return Question::of_peg(verb, rest);
+        };
         match split_at_byte(b'\t', rest) {
-            None => Question::of_peg(verb, rest),
+            None => Question::of_field(verb, peg, rest),
             Some(_) => Question::Bad,
         }
     }
@@ -65,8 +75,43 @@ impl<'a> Question<'a> {
             Question::List { of }
         } else if verb == b"lives".as_slice() {
             Question::Lives { of }
+        } else if verb == b"explicit".as_slice() {
+            Question::Explicit { of }
         } else {
             Question::Bad
+        }
+    }
+
+    /// What a verb, a peg and another field ask.
+    fn of_field(verb: &[u8], peg: &'a [u8], field: &'a [u8]) -> Self
+        ensures { question_view result ≡ question_of_field verb.now peg.now field.now }
+    {
+        if verb == b"ancestor".as_slice() {
+            Question::of_two(peg, field)
+        } else if verb == b"holds".as_slice() {
+            Question::in_range(peg, field)
+        } else {
+            Question::Bad
+        }
+    }
+
+    /// The `ancestor` of two pegs.
+    fn of_two(peg: &'a [u8], other: &'a [u8]) -> Self
+        ensures { question_view result ≡ question_or_bad (ancestor_of peg.now other.now) }
+    {
+        match (Peg::read(peg), Peg::read(other)) {
+            (Some(of), Some(other)) => Question::Ancestor { of, other },
+            _ => Question::Bad,
+        }
+    }
+
+    /// The `holds` of a peg in a range.
+    fn in_range(peg: &'a [u8], range: &[u8]) -> Self
+        ensures { question_view result ≡ question_or_bad (holds_of peg.now range.now) }
+    {
+        match (Peg::read(peg), read_range(range)) {
+            (Some(of), Some(range)) => Question::Holds { of, range },
+            _ => Question::Bad,
         }
     }
 }

@@ -16,7 +16,7 @@ abbrev pub line_answer : HistoryOfBytes → TreesOfBytes → List ℕ → Answer
 line_answer history trees line =
     elim (question_of line) [
       | None ↦ answer_of history trees (query_of line)
-      | Some question ↦ question_answer trees question
+      | Some question ↦ question_answer history trees question
     ]
 
 -- the bytes are a dump of this history, which is lawful

@@ -55,7 +55,7 @@ impl<'r> Job for Batch<'r, '_> {
     fn run(&self, place: u32, seen: &mut Seen<'r>) -> Result<Vec<u8>, AllocError> {
         let line = self.lines[place as usize];
         match Question::read(line) {
-            Some(question) => self.answer_to_question(place, &question),
+            Some(question) => self.answer_to_question(place, &question, seen),
             None => self.answer_to_query(place, line, seen),
         }
     }
@@ -63,13 +63,20 @@ impl<'r> Job for Batch<'r, '_> {
 
 impl<'r> Batch<'r, '_> {
     /// The answer to a question at a place.
-    fn answer_to_question(&self, place: u32, question: &Question<'_>) -> Result<Vec<u8>, AllocError>
-        requires { self.now.first + place < 2 ^ 32 }
-        ensures { IfOk result (λ text. text.items ≡ answer_text (self.now.first + place + 1)
+    fn answer_to_question(
+        &self,
+        place: u32,
+        question: &Question<'_>,
+        seen: &mut Seen<'r>,
+    ) -> Result<Vec<u8>, AllocError>
+        requires place { self.now.first + place < 2 ^ 32 }
+        requires seen { IsSeenOf self.now.repo.now.values self.now.memo.now seen.old }
+        ensures seen { IsSeenOf self.now.repo.now.values self.now.memo.now seen.new }
+        ensures text { IfOk result (λ text. text.items ≡ answer_text (self.now.first + place + 1)
             (question_answer_in self.now.repo.now (question_view question.now))) }
     {
         let mut text = Vec::with_capacity(self.alloc, USUAL_LENGTH)?;
-        let answer = answer_question(self.alloc, self.repo, question)?;
+        let answer = answer_question(self.alloc, self.repo, question, self.memo, seen)?;
         answer.write(self.first + place, &mut text)?;
         Ok(text)
     }

@@ -3,11 +3,12 @@
 use crate::host::Host;
 use branch_answer::{Question, answer_question};
 use query_answer::Repo;
-use sample_dumps::DUMPED;
+use sample_dumps::{DUMPED, MERGED};
 use std::alloc::{AllocError, Global};
 use std::test::Fail;
 use svn_dump::read;
 use svn_report::load_repo;
+use value_memo::Seen;
 
 const INPUT: &[u8] = b"ask\tlives\tb@3\nask\tentry\ttrunk/f@1\nask\tlist\t@3\nask\tlives\n";
 
@@ -36,6 +37,35 @@ fn questions_are_replied_to(rt: HostRuntime) -> Result<(), Fail> {
     Ok(())
 }
 
+const ABOUT_MERGES: &[u8] =
+    b"ask\texplicit\tbranches@10\nask\tancestor\tbranches/b@10\ttrunk@10\nask\tholds\ttrunk@10\t4:7\n";
+
+const SAID_OF_MERGES: &str = "ready 10
+
+#1 ok
+mergeinfo /branches
+ /trunk:3*,6
+mergeinfo /branches/b
+ 
+
+#2 ok
+2 /trunk
+
+#3 ok
+7 history
+6 history
+5 merged
+
+";
+
+#[test]
+fn questions_about_merges_are_replied_to(rt: HostRuntime) -> Result<(), Fail> {
+    let (said, ended) = Host::usual().talk(&rt, rt.alloc(), MERGED, ABOUT_MERGES);
+    ended?;
+    assert_eq!(rt; said.as_slice(), SAID_OF_MERGES.as_bytes());
+    Ok(())
+}
+
 fn append_answer(
     alloc: Global,
     repo: &Repo,
@@ -43,8 +73,10 @@ fn append_answer(
     place: u32,
     out: &mut Vec<u8>,
 ) -> Result<(), AllocError> {
+    let memo = repo.memo(alloc)?;
+    let mut seen = Seen::new(alloc, &memo)?;
     if let Some(question) = Question::read(line.as_bytes()) {
-        let answer = answer_question(alloc, repo, &question)?;
+        let answer = answer_question(alloc, repo, &question, &memo, &mut seen)?;
         let written = answer.write(place, out);
     }
     Ok(())

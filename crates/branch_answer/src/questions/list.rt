@@ -2,7 +2,7 @@
 ghost use Rattle.std.specs.Prelude.{◌≡◌, ◌++◌, ◌<◌, All, IfErr, IfOk, OnOk, length};
 ghost use Rattle.query_answer.specs.Peg.{peg_view};
 ghost use Rattle.query_answer.specs.Repo.{trees_in_bytes};
-ghost use Rattle.branch_answer.specs.KeptChildren.{children_in_bytes, entries_in_bytes, sorted_children};
+ghost use Rattle.branch_answer.specs.KeptChildren.{AreInOrder, entries_in_bytes};
 ghost use Rattle.branch_answer.specs.Listing.{children_text};
 ghost use Rattle.branch_answer.specs.QuestionAnswer.{list_answer};
 ghost use Rattle.branch_answer.specs.Told.{IsUntold, TellsLines};
@@ -11,7 +11,6 @@ use crate::kind::kind_text;
 use block_map::Child;
 use query_answer::{Peg, Repo, Unanswered};
 use std::alloc::{AllocError, Global};
-use std::collections::BTreeMap;
 use svn_dump::Kind;
 use svn_path::Names;
 
@@ -28,47 +27,33 @@ pub(crate) fn append_list(
 {
     let at = repo.find(alloc, peg)?;
     let children = repo.children(&at.path, at.rev)?;
-    append_children(alloc, repo.names(), children.as_slice(), out)?;
+    let entries = in_order(alloc, repo.names(), children.as_slice())?;
+    append_lines(entries.as_slice(), out)?;
     Ok(())
 }
 
-/// Appends the lines of these children, in the order of their names.
-fn append_children(
-    alloc: Global,
-    names: &Names,
-    children: &[Child],
-    out: &mut Vec<u8>,
-) -> Result<(), AllocError>
-    requires { All (λ child. child.name.0 < length names.now) children.now }
-    ensures { OnOk result (out.new.items
-        ≡ out.old.items ++ children_text (sorted_children (children_in_bytes names.now children.now))) }
-{
-    let sorted = in_order(alloc, names, children)?;
-    append_lines(&sorted, out)
-}
-
-/// The kinds of these children by their names.
+/// The names of these children with their kinds, in the order of their bytes.
 fn in_order<'n>(
     alloc: Global,
     names: &'n Names,
     children: &[Child],
-) -> Result<BTreeMap<&'n [u8], Kind>, AllocError>
+) -> Result<Vec<(&'n [u8], Kind)>, AllocError>
     requires { All (λ child. child.name.0 < length names.now) children.now }
-    ensures { IfOk result (λ sorted. entries_in_bytes sorted.entries
-        ≡ sorted_children (children_in_bytes names.now children.now)) }
+    ensures { IfOk result (λ entries. AreInOrder names.now children.now entries.items) }
 {
-    let mut sorted = BTreeMap::new(alloc);
+    let mut entries = Vec::new(alloc);
     for child in children {
-        sorted.insert(names.text(child.name), child.kind)?;
+        entries.push((names.text(child.name), child.kind))?;
     }
-    Ok(sorted)
+    entries.sort_unstable_by_key(|entry| entry.0);
+    Ok(entries)
 }
 
 /// Appends the lines of these names with their kinds.
-fn append_lines(sorted: &BTreeMap<&[u8], Kind>, out: &mut Vec<u8>) -> Result<(), AllocError>
-    ensures { OnOk result (out.new.items ≡ out.old.items ++ children_text (entries_in_bytes sorted.now.entries)) }
+fn append_lines(entries: &[(&[u8], Kind)], out: &mut Vec<u8>) -> Result<(), AllocError>
+    ensures { OnOk result (out.new.items ≡ out.old.items ++ children_text (entries_in_bytes entries.now)) }
 {
-    for (name, kind) in sorted {
+    for (name, kind) in entries {
         out.extend_from_slice(kind_text(*kind))?;
         out.push(b' ')?;
         out.extend_from_slice(name)?;

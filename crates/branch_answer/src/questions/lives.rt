@@ -1,17 +1,17 @@
 //! `lives`: when a path came to be, and when it went.
 ghost use Rattle.std.specs.Prelude.{◌≡◌, ◌++◌, ◌≤◌, All, IfErr, IfOk, IfSome, OnOk, flat_map, option_map};
-ghost use Rattle.svn_path.specs.Path.{IsPathOf, components_of, same_name};
-ghost use Rattle.path_index.specs.Operative.{came_from_itself};
+ghost use Rattle.svn_path.specs.Path.{IsPathOf, components_of};
 ghost use Rattle.query_answer.specs.Peg.{peg_view};
 ghost use Rattle.query_answer.specs.Repo.{trees_in_bytes};
-ghost use Rattle.branch_answer.specs.KeptLife.{HasPathsOf, lent_origin, life_text, lives_in_bytes};
+ghost use Rattle.branch_answer.specs.KeptLife.{HasPathsOf, life_text, lives_in_bytes};
 ghost use Rattle.branch_answer.specs.Life.{lives_of, next_path};
-ghost use Rattle.branch_answer.specs.Presence.{GoesBetween, HasKindIn, IsFirstOfLife, IsKnownPath, IsLastOfLife, IsLifeIn, IsNewest, IsNewestWith, IsThereIn, is_present};
+ghost use Rattle.branch_answer.specs.Presence.{HasKindIn, IsFirstOfLife, IsKnownPath, IsLastOfLife, IsLifeIn, IsThereIn};
 ghost use Rattle.branch_answer.specs.QuestionAnswer.{lives_answer};
 ghost use Rattle.branch_answer.specs.Told.{IsUntold, TellsLines};
 
 use crate::life::Life;
 use crate::moves::first_path_from;
+use crate::presence::{is_itself, is_there, newest_with};
 use query_answer::{Peg, Repo, Status, Unanswered};
 use std::alloc::{AllocError, Global};
 use svn_dump::{Kind, Origin};
@@ -58,7 +58,7 @@ fn lives_up_to(alloc: Global, repo: &Repo, path: &Path, top: u32) -> Result<Vec<
     let mut lives = Vec::new(alloc);
     let mut from = Some(top);
     'lives: while let Some(rev) = from {
-        let Some(last) = newest_with(repo, path, rev)? else {
+        let Some(last) = newest_with(repo, path, 0, rev)? else {
             break;
         };
         let life = life_up_to(alloc, repo, path, last, top)?;
@@ -66,52 +66,6 @@ fn lives_up_to(alloc: Global, repo: &Repo, path: &Path, top: u32) -> Result<Vec<
         lives.push(life)?;
     }
     Ok(lives)
-}
-
-/// Whether a path is there in a revision.
-fn is_there(repo: &Repo, path: &Path, rev: u32) -> Result<bool, AllocError>
-    ensures { IfOk result (λ there. there ≡ is_present repo.now path.now rev) }
-{
-    Ok(repo.entry(path, rev)?.is_some())
-}
-
-/// The newest revision up to this one that has a path.
-fn newest_with(repo: &Repo, path: &Path, rev: u32) -> Result<Option<u32>, AllocError>
-    requires { IsKnownPath repo.now path.now rev }
-    ensures { IfOk result (IsNewestWith repo.now path.now rev) }
-{
-    let mut at = rev;
-    'revisions: loop {
-        if is_there(repo, path, at)? {
-            return Ok(Some(at));
-        }
-        let set = repo.last_set(path, at);
-        if is_there(repo, path, set)? {
-            return Ok(Some(last_with(repo, path, set, at)?));
-        }
-        if set == 0 {
-            return Ok(None);
-        }
-        at = set - 1;
-    }
-}
-
-/// The last revision that has a path, between one that has it and one that lacks it, where it goes once.
-fn last_with(repo: &Repo, path: &Path, with: u32, without: u32) -> Result<u32, AllocError>
-    requires { GoesBetween repo.now path.now with without }
-    ensures { IfOk result (IsNewest repo.now path.now without) }
-{
-    let mut low = with;
-    let mut high = without;
-    'halves: while high - low > 1 {
-        let middle = low + (high - low) / 2;
-        if is_there(repo, path, middle)? {
-            low = middle;
-        } else {
-            high = middle;
-        }
-    }
-    Ok(low)
 }
 
 /// The life whose last revision this is, among those up to `top`.
@@ -179,15 +133,5 @@ fn first_of_life(repo: &Repo, path: &Path, rev: u32) -> Result<(u32, Option<Orig
             return Ok((first, origin));
         }
         first -= 1;
-    }
-}
-
-/// Whether the path of a revision came from itself in the revision before, given its origin.
-fn is_itself(origin: Option<&Origin>, path: &Path, rev: u32) -> bool
-    ensures { result ≡ came_from_itself same_name path.now rev (lent_origin origin.entry) }
-{
-    match origin {
-        Some(from) => from.path == *path && u64::from(from.rev) + 1 == u64::from(rev),
-        None => false,
     }
 }

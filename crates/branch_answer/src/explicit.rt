@@ -1,0 +1,122 @@
+//! Paths with mergeinfo of their own.
+ghost use Rattle.std.specs.Prelude.{◌≡◌, ◌++◌, All, IfOk, OnOk, filter};
+ghost use Rattle.svn_path.specs.Path.{IsPathOf};
+ghost use Rattle.query_answer.specs.Repo.{IsPathIn};
+ghost use Rattle.branch_answer.specs.ExplicitFound.{AreFoundIn, AreOpen, AreOpenBelow, has_own_text};
+ghost use Rattle.branch_answer.specs.KeptExplicit.{AreExplicitIn};
+ghost use Rattle.branch_answer.specs.TextOrder.{entries_by_text, paths_by_text, sorted_by_text};
+
+use query_answer::{PathRev, Repo};
+use std::alloc::{AllocError, Global};
+use std::collections::BTreeMap;
+use svn_path::{Names, Path};
+
+/// The paths at and below a path of a revision that have mergeinfo of their own, in the order of their bytes.
+pub(crate) fn explicit_of(alloc: Global, repo: &Repo, at: &PathRev) -> Result<Vec<Path>, AllocError>
+    requires { IsPathIn repo.now at.now }
+    ensures { IfOk result (λ paths. AreExplicitIn repo.now at.now.path at.now.rev paths.items) }
+{
+    let found = found_below(alloc, repo, at)?;
+    in_order(alloc, repo.names(), found)
+}
+
+/// Those paths in no particular order. The tree is walked one level after another, past what has no mergeinfo below it.
+fn found_below(alloc: Global, repo: &Repo, at: &PathRev) -> Result<Vec<Path>, AllocError>
+    requires { IsPathIn repo.now at.now }
+    ensures { IfOk result (λ found. AreFoundIn repo.now at.now.path at.now.rev found.items) }
+{
+    // The contract of `names` says that the history is lawful.
+    let _ = repo.names();
+    let mut found = Vec::new(alloc);
+    let mut level = Vec::new(alloc);
+    level.push(at.path.dup()?)?;
+    'levels: while !level.is_empty() {
+        append_own(repo, level.as_slice(), at.rev, &mut found)?;
+        level = open_below(alloc, repo, level.as_slice(), at.rev)?;
+    }
+    Ok(found)
+}
+
+/// Appends those of these paths that have mergeinfo of their own.
+fn append_own(
+    repo: &Repo,
+    level: &[Path],
+    rev: u32,
+    found: &mut Vec<Path>,
+) -> Result<(), AllocError>
+    ensures { OnOk result (found.new.items ≡ found.old.items ++ filter (has_own_text repo.now rev) level.now) }
+{
+    for path in level {
+        if has_own_mergeinfo(repo, path, rev)? {
+            found.push(path.dup()?)?;
+        }
+    }
+    Ok(())
+}
+
+/// Whether a path of a revision has mergeinfo of its own.
+fn has_own_mergeinfo(repo: &Repo, path: &Path, rev: u32) -> Result<bool, AllocError>
+    ensures { IfOk result (λ has. has ≡ has_own_text repo.now rev path.now) }
+{
+    match repo.entry(path, rev)? {
+        Some(entry) => Ok(entry.mi.is_some()),
+        None => Ok(false),
+    }
+}
+
+/// What stands directly below these paths, as far as there may be mergeinfo at or below it.
+fn open_below(alloc: Global, repo: &Repo, level: &[Path], rev: u32) -> Result<Vec<Path>, AllocError>
+    ensures { IfOk result (λ next. AreOpenBelow repo.now rev level.now next.items) }
+{
+    let mut next = Vec::new(alloc);
+    for path in level {
+        let mut more = open_children(alloc, repo, path, rev)?;
+        next.append(&mut more)?;
+    }
+    Ok(next)
+}
+
+/// What stands directly below a path, as far as there may be mergeinfo at or below it.
+fn open_children(alloc: Global, repo: &Repo, path: &Path, rev: u32) -> Result<Vec<Path>, AllocError>
+    ensures { IfOk result (λ marked. AreOpen repo.now rev path.now marked.items) }
+{
+    let list = repo.children(path, rev)?;
+    let children = list.as_slice();
+    let mut marked = Vec::new(alloc);
+    for child in children {
+        let below = path.join([child.name].as_slice())?;
+        if repo.may_have_mergeinfo(&below, rev)? {
+            marked.push(below)?;
+        }
+    }
+    Ok(marked)
+}
+
+/// These paths in the order of the bytes of their texts, each once.
+fn in_order(alloc: Global, names: &Names, paths: Vec<Path>) -> Result<Vec<Path>, AllocError>
+    requires { All (IsPathOf names.now) paths.items }
+    ensures { IfOk result (λ sorted. paths_by_text names.now sorted.items
+        ≡ sorted_by_text (paths_by_text names.now paths.items)) }
+{
+    let sorted = by_text(alloc, names, paths)?;
+    sorted.into_values().collect(alloc)
+}
+
+/// These paths by their texts.
+fn by_text(
+    alloc: Global,
+    names: &Names,
+    paths: Vec<Path>,
+) -> Result<BTreeMap<Vec<u8>, Path>, AllocError>
+    requires { All (IsPathOf names.now) paths.items }
+    ensures { IfOk result (λ sorted. entries_by_text sorted.entries
+        ≡ sorted_by_text (paths_by_text names.now paths.items)) }
+{
+    let mut sorted = BTreeMap::new(alloc);
+    for path in paths {
+        let mut text = Vec::new(alloc);
+        path.write(names, &mut text)?;
+        sorted.insert(text, path)?;
+    }
+    Ok(sorted)
+}
