@@ -10,6 +10,7 @@ It imports nothing of this tree, so that a copy of this file is a program, too.
 """
 from __future__ import annotations
 
+import contextlib
 import itertools
 import operator
 import os
@@ -639,32 +640,109 @@ def lives_lines(history: History, peg: Place) -> Lines:
     return [line for life in reversed(lives(trees, peg.path)) for line in life_lines(trees, peg.path, life)]
 
 
-QUESTIONS: dict[bytes, Callable[[History, Place], Lines]] = {
-    b"entry": entry_lines,
-    b"list": list_lines,
-    b"lives": lives_lines,
+def explicit(tree: Tree, path: Path) -> list[tuple[Path, bytes]]:
+    """The paths at and below a path with mergeinfo of their own, in the order of their bytes, each with its text."""
+    found = [(each, entry.mergeinfo) for each, entry in tree.items() if is_below(each, path)]
+    return sorted([(each, text) for each, text in found if text is not None], key=lambda one: printed(one[0]))
+
+
+def explicit_lines(history: History, peg: Place) -> Lines:
+    """The paths at and below a path with mergeinfo of their own, each with the lines of its text."""
+    found = explicit(history.trees[peg.revision], peg.path)
+    return [
+        line
+        for path, text in found
+        for line in (b"mergeinfo " + printed(path), *(b" " + line for line in text.split(b"\n")))
+    ]
+
+
+def ancestor_lines(history: History, one: Place, other: Place) -> Lines:
+    """The greatest revision in which both paths had the same location, with that location."""
+    for rev in range(min(one.revision, other.revision), -1, -1):
+        place = location(history.trees, *one, rev)
+        if place is not None and place == location(history.trees, *other, rev):
+            return [b"%d %s" % (rev, printed(place))]
+    return [b"-"]
+
+
+def value_holds(history: History, value: Value, rev: int) -> bool | None:
+    """Return whether a value has a revision for a path on which that is operative, as inheritable or not; or None."""
+    kinds = [kind_in(runs, rev) for path, runs in value.items() if is_operative(history, path, rev)]
+    return max((kind for kind in kinds if kind is not None), default=None)
+
+
+def values_below(history: History, peg: Place) -> list[tuple[Path, Value]]:
+    """The paths below a path with mergeinfo of their own that is not malformed, each with its value."""
+    found: list[tuple[Path, Value]] = []
+    for path, text in explicit(history.trees[peg.revision], peg.path):
+        with contextlib.suppress(Malformed):
+            found.append((path, value_of(text)))
+    return [(path, value) for path, value in found if path != peg.path]
+
+
+def holding(history: History, peg: Place, value: Value, below: list[tuple[Path, Value]], rev: int) -> bytes | None:
+    """Return how a path holds a revision, given its effective mergeinfo and that of the paths below it; or None."""
+    place = location(history.trees, *peg, rev) if rev <= peg.revision else None
+    if place is not None and is_operative(history, place, rev):
+        return b"history"
+    kind = value_holds(history, value, rev)
+    if kind is not None:
+        return b"merged" if kind else b"in-part"
+    paths = [path for path, value in below if value_holds(history, value, rev) is not None]
+    return b"in-part-below " + printed(paths[0]) if paths else None
+
+
+def holds_lines(history: History, peg: Place, bounds: Bounds) -> Lines:
+    """The revisions of a range that a path holds, the newest first, each with how it holds it."""
+    value, below = effective(history.trees[peg.revision], peg.path), values_below(history, peg)
+    low, high = bounds
+    revs = range(min(high, len(history.trees) - 1), low - 1, -1)
+    found = [(rev, holding(history, peg, value, below, rev)) for rev in revs]
+    return [b"%d %s" % (rev, how) for rev, how in found if how is not None]
+
+
+class QuestionVerb(NamedTuple):
+    """The fields of a question, and its result lines."""
+
+    forms: Sequence[Callable[[bytes], object]]
+    lines_of: Callable[..., Lines]
+
+
+QUESTIONS = {
+    b"entry": QuestionVerb((peg_of,), entry_lines),
+    b"list": QuestionVerb((peg_of,), list_lines),
+    b"lives": QuestionVerb((peg_of,), lives_lines),
+    b"explicit": QuestionVerb((peg_of,), explicit_lines),
+    b"ancestor": QuestionVerb((peg_of, peg_of), ancestor_lines),
+    b"holds": QuestionVerb((peg_of, range_of), holds_lines),
 }
 
 
-def question_of(fields: Lines) -> tuple[bytes, Place]:
-    """The verb of a question and its peg, of the fields after the first one."""
-    if len(fields) != 2 or fields[0] not in QUESTIONS:
+def question_of(fields: Lines) -> tuple[QuestionVerb, list[object]]:
+    """The verb of a question and what its fields say, of the fields after the first one."""
+    verb = QUESTIONS.get(fields[0]) if fields else None
+    if verb is None or len(fields) - 1 != len(verb.forms):
         raise Malformed
-    return fields[0], peg_of(fields[1])
+    return verb, [form(field) for form, field in zip(verb.forms, fields[1:])]
 
 
 def answer_of_question(history: History, fields: Lines) -> Lines:
     """The status, and the result lines, of the fields after the first one."""
     try:
-        verb, peg = question_of(fields)
+        verb, said = question_of(fields)
     except Malformed:
         return [b"bad-query"]
-    if peg.revision >= len(history.trees):
-        return [b"no-such-revision"]
-    first = 0 if verb == b"lives" else peg.revision
-    if not any(peg.path in tree for tree in history.trees[first : peg.revision + 1]):
-        return [b"no-such-path"]
-    return [b"ok"] + QUESTIONS[verb](history, peg)
+    for peg in said:
+        if isinstance(peg, Place):
+            if peg.revision >= len(history.trees):
+                return [b"no-such-revision"]
+            first = 0 if verb.lines_of is lives_lines else peg.revision
+            if not any(peg.path in tree for tree in history.trees[first : peg.revision + 1]):
+                return [b"no-such-path"]
+    try:
+        return [b"ok"] + verb.lines_of(history, *said)
+    except Malformed:
+        return [b"malformed-mergeinfo"]
 
 
 def answer_in_talk(history: History, line: bytes) -> Lines:

@@ -24,7 +24,7 @@ from model.drafts import Draft
 
 PEG = re.compile(rb"@([0-9]{1,9})(?![^\t])")
 # The verbs of questions, and how often of a hundred each is drawn.
-QUESTIONS = {b"lives": 50, b"list": 25, b"entry": 25}
+QUESTIONS = {b"lives": 25, b"list": 10, b"entry": 10, b"explicit": 15, b"ancestor": 15, b"holds": 25}
 
 
 # fmt: off
@@ -181,12 +181,23 @@ def drawn_peg(lot: random.Random, draft: Draft, youngest: int) -> bytes:
     return draft.spelled(path) + b"@%d" % (rev if lot.random() < 0.96 else youngest + 1)
 
 
+def drawn_range(lot: random.Random, youngest: int) -> bytes:
+    """A range of revisions, mostly of all or of one. Some go on past the youngest revision."""
+    rev = lot.randint(0, youngest)
+    near = [(0, youngest), (rev, rev), (rev, youngest), (0, rev), (youngest + 1, 2147483647), (0, 2147483647)]
+    return b"%d:%d" % lot.choices(near, (40, 30, 10, 10, 2, 8))[0]
+
+
 def drawn_question(lot: random.Random, draft: Draft, youngest: int) -> bytes:
     """A question, or a line that is nearly one."""
     if lot.random() < 0.08:
         return lot.choice(odd.QUESTIONS)
     verb = lot.choices(list(QUESTIONS), list(QUESTIONS.values()))[0]
     line = b"ask\t" + verb + b"\t" + drawn_peg(lot, draft, youngest)
+    if verb == b"ancestor":
+        line += b"\t" + drawn_peg(lot, draft, youngest)
+    if verb == b"holds":
+        line += b"\t" + drawn_range(lot, youngest)
     return drafts.changed(lot, line).replace(b"\n", b"\r") if lot.random() < 0.03 else line
 
 

@@ -77,7 +77,10 @@ QUESTIONS = [b"ask", b"ask\t", b"ask\t\t", b"ask\tlives", b"ask\tlist\t", b"ask\
              b"lives\t@1", b"ask\tlives\t@4294967297", b"ask\tlist\t@" + b"0" * 5000 + b"x",
              b"ask\tlives\t@" + b"0" * 5000 + b"1", b"ask\tlist\t@0001", b"ask\tentry\t//@1",
              b"ask\tlives\t@2147483647", b"ask\tlist\t@0", b"ask\tlives\t" + b"a/" * 1500 + b"@1",
-             b"ask\tentry\t" + b"/" * 1500 + b"@01"]
+             b"ask\tentry\t" + b"/" * 1500 + b"@01", b"ask\tholds\t@1", b"ask\tholds\t@1\t1", b"ask\tholds\t@1\t1:0",
+             b"ask\tholds\t@1\t0:1\t", b"ask\tholds\t@1\t0:2147483648", b"ask\tholds\t@0\t0000:2147483647",
+             b"ask\tholds\t0:1\t@1", b"ask\tancestor\t@1", b"ask\tancestor\t@1\t@1\t@1", b"ask\tancestor\t@1\t0:1",
+             b"ask\tancestor\t@0\t@0", b"ask\texplicit\t@1\t@1", b"ask\texplicit\t", b"ask\texplicit\t@0"]
 FIELDS = [b"", b"1", b"a", b"a@", b"@", b"@x", b"a@-1", b"a@ 1", b"@1 ", b"@1\r", b"@HEAD", b"a@2147483648",
           b"./a@1", b"a/../b@0", b"..@1", b"a/.@2147483647"]
 FORMATS = [b"", b"0", b"1", b"4", b"02", b"03", b"2 ", b"3 ", b"3\r", b" 3", b"23", b"33", b"2\n3"]

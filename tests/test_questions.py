@@ -1,4 +1,4 @@
-"""Asks svnhist-live about entries, names and lives (docs/questions.md). Each talk is compared as a whole."""
+"""Asks svnhist-live the questions of docs/questions.md. Each talk is compared as a whole."""
 from __future__ import annotations
 
 from collections.abc import Sequence
@@ -42,6 +42,19 @@ WAYS = dump_of(
     [copied(b"v", b"late", 7), copied(b"w", b"late", 7), deleted(b"v"), added(b"v"), deleted(b"late")],
     [copied(b"all", b"", 8)],
 )
+# Of a branch, revisions were merged into the trunk as a whole, in part, and into a file of it.
+MERGES = dump_of(
+    [added(b"trunk"), added(b"trunk/f", FILE)],
+    [copied(b"b", b"trunk", 1)],
+    [changed(b"b/f", text=b"x")],
+    [changed(b"trunk", mergeinfo(b"/b:3"))],
+    [changed(b"b"), changed(b"b/f", text=b"y")],
+    [changed(b"trunk", mergeinfo(b"/b:3,5*"))],
+    [changed(b"b/f", text=b"z")],
+    [changed(b"trunk/f", mergeinfo(b"/b/f:7"))],
+    [changed(b"b/f", mergeinfo(b"x"))],
+    [changed(b"trunk", mergeinfo(b"x"))],
+)
 # In the order of their bytes.
 # fmt: off
 NAMES = [b" ", b"-", b"A", b"B", b"_", b"a", b"a b", b"a-b", b"a.b", b"a0", b"aB", b"ab", b"\x7f", b"\x80", b"\xc3\xa9",
@@ -57,7 +70,10 @@ BAD = [
     b"ask\tLives\t@1", b"ask\tlivess\t@1", b"ask\tentry \t@1", b"ask\tlist\t@1\r", b"ask\tlist\t@ 1", b"ask\tlist\t@-1",
     b"ask\tlist\t@HEAD", b"ask\tlives\t@2147483648", b"ask\tlives\t@4294967297", b"asking\tlives\t@1", b"ask lives @1",
     b"ask \tlives\t@1", b" ask\tlives\t@1", b"\task\tlives\t@1", b"Ask\tlives\t@1", b"ask\r\tlives\t@1", b"lives\t@1",
-    b"list\t@1", b"entry\t@1",
+    b"list\t@1", b"entry\t@1", b"ask\tholds\t@1", b"ask\tholds\t@1\t1", b"ask\tholds\t@1\t1:0", b"ask\tholds\t0:1\t@1",
+    b"ask\tholds\t@1\t0:1\t", b"ask\tholds\t@1\t0:2147483648", b"ask\tholds\t@1\t@1", b"ask\tancestor\t@1",
+    b"ask\tancestor\t@1\t@1\t@1", b"ask\tancestor\t@1\t0:1", b"ask\tancestor\t@1\t./@1", b"ask\texplicit\t@1\t@1",
+    b"ask\texplicit\t", b"explicit\t@1", b"ancestor\t@1\t@1", b"holds\t@1\t0:1",
 ]
 # fmt: on
 
@@ -215,6 +231,75 @@ class Questions(ProgramTest):
             b"all/w@9": b"ok\n9-9 dir\nfrom 8 /w",
         }
         self.check_talk(WAYS, asked(b"lives", replies))
+
+    def test_explicit(self) -> None:
+        """A value is printed as the dump has it. One that was copied counts, and one that was taken away does not."""
+        dump = dump_of(
+            [added(b"t", DIR, mergeinfo(b"/b:4*,1-2\n/a:3\n")), added(b"t/d"), added(b"t/d/f", FILE, mergeinfo(b"")),
+             added(b"t-x", DIR, MERGED), added(b"t/bad", FILE, mergeinfo(b"x\n\ny")), added(b"p"), added(b"p/f", FILE)],
+            [copied(b"p/c", b"t", 1), changed(b"t/bad", END)],
+            [deleted(b"p/c/d"), changed(b"t", END), changed(b"t/d", MERGED)],
+        )  # fmt: skip
+        top, bad = b"mergeinfo %s\n /b:4*,1-2\n /a:3\n ", b"\nmergeinfo %s/bad\n x\n \n y"
+        empty = b"\nmergeinfo %s/d/f\n "
+        replies = {
+            b"@0": b"ok",
+            b"@1": b"ok\n" + top % b"/t" + b"\nmergeinfo /t-x\n /x:1" + bad % b"/t" + empty % b"/t",
+            b"t@1": b"ok\n" + top % b"/t" + bad % b"/t" + empty % b"/t",
+            b"t/d@1": b"ok\nmergeinfo /t/d/f\n ",
+            b"t/d/f@1": b"ok\nmergeinfo /t/d/f\n ",
+            b"p@1": b"ok",
+            b"p@2": b"ok\n" + top % b"/p/c" + bad % b"/p/c" + empty % b"/p/c",
+            b"t@2": b"ok\n" + top % b"/t" + empty % b"/t",
+            b"p/c@3": b"ok\n" + top % b"/p/c" + bad % b"/p/c",
+            b"t@3": b"ok\nmergeinfo /t/d\n /x:1\nmergeinfo /t/d/f\n ",
+            b"t/d@0": b"no-such-path",
+            b"p/c/d@3": b"no-such-path",
+            b"t@4": b"no-such-revision",
+        }
+        self.check_talk(dump, asked(b"explicit", replies))
+
+    def test_ancestor(self) -> None:
+        replies = {
+            b"trunk@3\tb@2": b"ok\n1 /trunk",
+            b"c@3\ttrunk@3": b"ok\n1 /trunk",
+            b"c@3\tb@2": b"ok\n2 /b",
+            b"b@2\tc@3": b"ok\n2 /b",
+            b"trunk@1\ttrunk@3": b"ok\n1 /trunk",
+            b"trunk@3\ttrunk@3": b"ok\n3 /trunk",
+            b"trunk@3\t@3": b"ok\n-",
+            b"@0\t@3": b"ok\n0 /",
+            b"b@3\tx@4": b"no-such-path",
+            b"trunk@3\tb@3": b"no-such-path",
+            b"c@3\tx@4": b"no-such-revision",
+        }
+        self.check_talk(MOVED, asked(b"ancestor", replies))
+
+    def test_holds(self) -> None:
+        of_branch = b"\n7 history\n5 history\n3 history\n2 history\n1 history"
+        replies = {
+            b"trunk@8\t0:8": b"ok\n8 history\n7 in-part-below /trunk/f\n6 history\n5 in-part\n4 history\n3 merged\n"
+            b"1 history",
+            b"trunk@8\t7:7": b"ok\n7 in-part-below /trunk/f",
+            b"trunk@8\t2:2": b"ok",
+            b"trunk@8\t3:5": b"ok\n5 in-part\n4 history\n3 merged",
+            b"trunk@8\t8:2147483647": b"ok\n8 history",
+            b"trunk@8\t9:9": b"ok",
+            b"trunk@5\t0:10": b"ok\n4 history\n3 merged\n1 history",
+            b"trunk@3\t0:10": b"ok\n1 history",
+            # Its own mergeinfo counts, and before that what it inherited of what is inheritable.
+            b"trunk/f@8\t0:8": b"ok\n8 history\n7 merged\n1 history",
+            b"trunk/f@6\t0:8": b"ok\n3 merged\n1 history",
+            b"b@8\t0:8": b"ok" + of_branch,
+            # What is below can't be read.
+            b"b@9\t0:8": b"ok" + of_branch,
+            b"b/f@9\t0:8": b"malformed-mergeinfo",
+            b"trunk@10\t0:0": b"malformed-mergeinfo",
+            b"@0\t0:0": b"ok",
+            b"x@8\t0:8": b"no-such-path",
+            b"trunk@11\t0:8": b"no-such-revision",
+        }
+        self.check_talk(MERGES, asked(b"holds", replies))
 
     def test_lines_that_are_no_questions(self) -> None:
         self.check_talk(MOVED, [(line + b"\n", b"bad-query") for line in BAD])
