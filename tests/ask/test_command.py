@@ -258,7 +258,11 @@ class Command(base.Case):
         )
 
     def test_bad_questions_have_a_reason(self) -> None:
-        queries = self.made("queries", b"ask\nask\tblame\ta@1\nask\tlives\ta\nask\tlist\ta@1\t1:2\n")
+        queries = self.made(
+            "queries",
+            b"ask\nask\tblame\ta@1\nask\tlives\ta\nask\tlist\ta@1\t1:2\nask\tholds\ta@1\nask\tholds\ta@1\t2:1\n"
+            b"ask\tancestor\ta@1\tb\n",
+        )
         lines = base.run(DUMP, "ask", queries).output.splitlines()
         self.assertEqual(
             [line.partition(b"bad-query: ")[2] for line in lines],
@@ -267,6 +271,9 @@ class Command(base.Case):
                 b"there is no question 'blame'",
                 b"'a' has no peg revision: 'a@REV'",
                 b"list takes 1 field after it",
+                b"holds takes 2 fields after it",
+                b"'2:1' is not a range: LO:HI, two numbers up to 2147483647, of which the first is not above the second",
+                b"'b' has no peg revision: 'b@REV'",
             ],
         )
 

@@ -19,8 +19,8 @@ VERBS = {
     b"merged": (3, 4),
     b"eligible": (3, 4),
 }
-# The verbs of questions, which follow `ask` and have one peg.
-QUESTIONS = {b"entry", b"list", b"lives"}
+# The verbs of questions, which follow `ask`, with the number of fields after them, of which the first is a peg.
+QUESTIONS = {b"entry": 1, b"list": 1, b"lives": 1, b"explicit": 1, b"ancestor": 2, b"holds": 2}
 
 
 class Shape(NamedTuple):
@@ -121,18 +121,27 @@ def bad_query(line: bytes) -> str:
             return reason
     if fields[0] == b"locate":
         return "'%s' is not a number up to 2147483647" % fields[2].decode("utf-8", "replace")
-    return "'%s' is not a range: LO:HI, two numbers up to 2147483647, of which the first is not above the second" % (
-        fields[-1].decode("utf-8", "replace")
-    )
+    return bad_range(fields[-1])
 
 
 def bad_question(fields: Sequence[bytes]) -> str:
     """Return why the fields after `ask` are no question."""
     if not fields or fields[0] not in QUESTIONS:
         return "there is no question '%s'" % b"\t".join(fields[:1]).decode("utf-8", "replace")
-    if len(fields) != 2:
-        return "%s takes 1 field after it" % fields[0].decode("ascii")
-    return bad_peg(fields[1]) or "it is no question"
+    verb, count = fields[0], QUESTIONS[fields[0]]
+    if len(fields) - 1 != count:
+        return "%s takes %d field%s after it" % (verb.decode("ascii"), count, "s" * (count > 1))
+    return (
+        bad_peg(fields[1])
+        or (bad_peg(fields[2]) if verb == b"ancestor" else None)
+        or (bad_range(fields[2]) if verb == b"holds" else "it is no question")
+    )
+
+
+def bad_range(field: bytes) -> str:
+    return "'%s' is not a range: LO:HI, two numbers up to 2147483647, of which the first is not above the second" % (
+        field.decode("utf-8", "replace")
+    )
 
 
 def bad_peg(field: bytes) -> str | None:

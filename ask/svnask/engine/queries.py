@@ -127,6 +127,25 @@ class Inherited(Answer):
         return rangelists_in(self.text)
 
 
+class OwnMergeinfo(Answer):
+    """The paths at and below a path that have mergeinfo of their own, with its text, in the order of their bytes."""
+
+    query: ExplicitMergeinfo
+
+    @property
+    def texts(self) -> list[tuple[bytes, bytes]]:
+        found: list[tuple[bytes, list[bytes]]] = []
+        for line in self.lines:
+            # A line of a text begins with a space.
+            if line.startswith(b" "):
+                found[-1][1].append(line[1:])
+            elif line.startswith(b"mergeinfo /"):
+                found.append((line.partition(b" ")[2], []))
+            else:
+                raise Denied("E160005", "there is mergeinfo of a path with the character 0x0a")
+        return [(path, b"\n".join(lines)) for path, lines in found]
+
+
 class Merges(Answer):
     """The revisions of a source that were merged into a target, or are still to be merged, rising."""
 
@@ -256,6 +275,20 @@ class Mergeinfo(Query[Inherited]):
 
     def answer(self, status: str, text: bytes) -> Inherited:
         return Inherited(self, status, text)
+
+
+class ExplicitMergeinfo(Query[OwnMergeinfo]):
+    """The question which paths at and below a path have mergeinfo of their own.
+
+    >>> ExplicitMergeinfo(b"trunk", 8).answer("ok", b"mergeinfo /trunk\\n /b:3\\n /c:4").texts
+    [(b'/trunk', b'/b:3\\n/c:4')]
+    """
+
+    def line(self) -> bytes:
+        return b"ask\texplicit\t" + peg_text(self.path, self.rev)
+
+    def answer(self, status: str, text: bytes) -> OwnMergeinfo:
+        return OwnMergeinfo(self, status, text)
 
 
 class Pair(Query[Merges]):

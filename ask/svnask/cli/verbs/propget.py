@@ -2,15 +2,14 @@
 from __future__ import annotations
 
 from argparse import ArgumentParser, Namespace
-from collections.abc import Iterator
+from collections.abc import Iterator, Sequence
 from typing import NamedTuple
 
 from svnask.asking.verb import Object, Verb, shown
-from svnask.engine.queries import LocationSegments
+from svnask.engine.queries import ExplicitMergeinfo
 from svnask.errors import Denied, Usage
 from svnask.history.open_history import OpenHistory
 from svnask.history.targets import Target, target_of
-from svnask.mergeinfo.explicit import Explicit
 from svnask.paths import components
 from svnask.sources.urls import in_url
 from svnask.texts import decoded
@@ -58,12 +57,15 @@ class PropgetVerb(Verb):
                 "E205000", "--no-newline is only available for single-target, non-recursive propget operations"
             )
         targets = [target_of(history, word) for word in given.targets or [""]]
-        answers = history.answers(LocationSegments(*target) for target in targets)
+        answers = history.answers(ExplicitMergeinfo(*target) for target in targets)
         for target in targets:
-            if not answers[LocationSegments(*target)].ok:
+            if not answers[ExplicitMergeinfo(*target)].ok:
                 raise Denied("E150000", f"'{decoded(target.path)}' does not exist in revision {target.rev}")
-        explicit = Explicit(history.records())
-        return [each for target in targets for each in found_at(explicit, target, given.recursive)]
+        return [
+            each
+            for target in targets
+            for each in found_at(answers[ExplicitMergeinfo(*target)].texts, target, given.recursive)
+        ]
 
     def text(self, history: OpenHistory, given: Namespace) -> Iterator[bytes]:
         has_path = given.recursive or len(given.targets) > 1
@@ -78,16 +80,14 @@ class PropgetVerb(Verb):
             yield {"path": decoded(path), "value": shown(text)}
 
 
-def found_at(explicit: Explicit, target: Target, is_recursive: bool) -> list[FoundValue]:
-    """The text of a target, or of all paths at and below it."""
+def found_at(texts: Sequence[tuple[bytes, bytes]], target: Target, is_recursive: bool) -> list[FoundValue]:
+    """The text of a target, or of all paths at and below it, of the texts that these have."""
     if is_recursive:
-        return [
-            FoundValue(*each) for each in sorted(explicit.below(*target), key=lambda each: components(in_url(each[0])))
-        ]
-    text = explicit.text(*target)
-    if text is None:
+        return [FoundValue(*each) for each in sorted(texts, key=lambda each: components(in_url(each[0])))]
+    found = [FoundValue(path, text) for path, text in texts if path == target.path]
+    if not found:
         raise Denied("E200000", f"Property '{MERGEINFO}' not found on '{decoded(target.path)}'")
-    return [FoundValue(target.path, text)]
+    return found
 
 
 VERB = PropgetVerb()
