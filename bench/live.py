@@ -59,6 +59,20 @@ class Talk:
         return (time.perf_counter() - began) * 1e3, reply
 
 
+    def turns(self, text: bytes, count: int) -> float:
+        """Return the milliseconds until so many replies to turns were read. All of them must be answers."""
+        began = time.perf_counter()
+        os.write(self.input, text)
+        found, left = bytearray(), count
+        while left:
+            end = max(len(found) - 1, 0)
+            found += os.read(self.output, 1 << 16)
+            left -= found.count(b"\n\n", end)
+        if found.count(b" ok\n") != count:
+            raise Failed(f"the replies to {text[:100]!r} are no answers")
+        return (time.perf_counter() - began) * 1e3
+
+
 @contextmanager
 def talk_about(live: Path, dump: Path) -> Iterator[Talk]:
     words: Words = [live, dump, "1"]

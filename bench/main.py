@@ -20,6 +20,7 @@ from pathlib import Path
 from bench import (
     hostile,
     live,
+    questions_of_branches,
     reading,
     svnask_branches,
     svnask_export,
@@ -49,6 +50,7 @@ PARTS: dict[str, Callable[[Setup], Tables]] = {
     "svnask-growth": svnask_growth.measured,
     "svnask-repository": svnask_repository.measured,
     "svnhist-live": live.measured,
+    "svnhist-live-questions": questions_of_branches.measured,
 }
 
 
