@@ -58,7 +58,6 @@ class Talk:
         reply = self.reply()
         return (time.perf_counter() - began) * 1e3, reply
 
-
     def turns(self, text: bytes, count: int) -> float:
         """Return the milliseconds until so many replies to turns were read. All of them must be answers."""
         began = time.perf_counter()
