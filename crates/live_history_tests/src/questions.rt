@@ -1,4 +1,6 @@
 //! Questions about branches, and talks with them.
+ghost use Rattle.std.specs.Prelude.{◌≤◌, IfOk, length};
+ghost use Rattle.query_answer.specs.Worker.{IsSeenOf};
 
 use crate::host::Host;
 use branch_answer::{Question, answer_question};
@@ -8,7 +10,7 @@ use std::alloc::{AllocError, Global};
 use std::test::Fail;
 use svn_dump::read;
 use svn_report::load_repo;
-use value_memo::Seen;
+use value_memo::{Memo, Seen};
 
 const INPUT: &[u8] = b"ask\tlives\tb@3\nask\tentry\ttrunk/f@1\nask\tlist\t@3\nask\tlives\n";
 
@@ -66,7 +68,33 @@ fn questions_about_merges_are_replied_to(rt: HostRuntime) -> Result<(), Fail> {
     Ok(())
 }
 
-fn append_answer(
+/// A worker that knows nothing of a memo yet.
+fn worker_of<'r>(alloc: Global, repo: &'r Repo, memo: &Memo<'r>) -> Result<Seen<'r>, AllocError>
+    requires { length repo.now.values ≤ length memo.now }
+    ensures { IfOk result (IsSeenOf repo.now.values memo.now) }
+{
+    Seen::new(alloc, memo)
+}
+
+fn append_answer<'r>(
+    alloc: Global,
+    repo: &'r Repo,
+    line: &str,
+    place: u32,
+    memo: &Memo<'r>,
+    seen: &mut Seen<'r>,
+    out: &mut Vec<u8>,
+) -> Result<(), AllocError>
+    requires { IsSeenOf repo.now.values memo.now seen.old }
+{
+    if let Some(question) = Question::read(line.as_bytes()) {
+        let answer = answer_question(alloc, repo, &question, memo, seen)?;
+        let written = answer.write(place, out);
+    }
+    Ok(())
+}
+
+fn append_first_answer(
     alloc: Global,
     repo: &Repo,
     line: &str,
@@ -74,12 +102,8 @@ fn append_answer(
     out: &mut Vec<u8>,
 ) -> Result<(), AllocError> {
     let memo = repo.memo(alloc)?;
-    let mut seen = Seen::new(alloc, &memo)?;
-    if let Some(question) = Question::read(line.as_bytes()) {
-        let answer = answer_question(alloc, repo, &question, &memo, &mut seen)?;
-        let written = answer.write(place, out);
-    }
-    Ok(())
+    let mut seen = worker_of(alloc, repo, &memo)?;
+    append_answer(alloc, repo, line, place, &memo, &mut seen, out)
 }
 
 #[test]
@@ -88,7 +112,7 @@ fn an_answer_is_written_with_its_place(rt: HostRuntime) -> Result<(), Fail> {
     let dump = read(alloc, DUMPED)?;
     let repo = load_repo(&rt, alloc, dump, &[], 1)?;
     let mut out = Vec::new(alloc);
-    let appended = append_answer(alloc, &repo, "ask\tlist\ttrunk@1", 6, &mut out);
+    let appended = append_first_answer(alloc, &repo, "ask\tlist\ttrunk@1", 6, &mut out);
     drop(repo);
     appended?;
     assert_eq!(rt; out.as_slice(), b"#7 ok\nfile f\n".as_slice());
