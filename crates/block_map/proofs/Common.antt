@@ -26,10 +26,10 @@ unfoldable pub use Rattle.block_map.specs.Look.{looks_of}
 pub use Rattle.block_map.specs.LookThrough.{IsFoundUpTo, look_from, look_through}
 pub use Rattle.block_map.specs.Looked.{looked_view}
 pub use Rattle.block_map.specs.Map.{AreEntryAndNearest, found_view, HasNoneFrom, hi_of, IsEndIn, IsMapOf, IsMapOfFirstRecords, IsNearestOrNone, look_in, MapValue, most_nodes, nearest_view, nodes_for, records_at_ticks, revision_in, standings_in, state_in}
-pub use Rattle.block_map.specs.Node.{absent_node, is_location, may_give_below, no_children, node_at_location, node_of_kind, node_with_mergeinfo, node_with_setting, own_with_mergeinfo, untouched}
+pub use Rattle.block_map.specs.Node.{absent_node, gives_mergeinfo, is_location, may_give_mergeinfo, no_children, node_at_location, node_of_kind, node_with_mergeinfo, node_with_setting, own_with_mergeinfo, untouched}
 pub use Rattle.block_map.specs.Standing.{entry_view, mergeinfo_of, Standing, standing_at, standing_of}
 pub use Rattle.block_map.specs.Trees.{action_in, AreMapTrees, AreTrees, end_of_trees, IsNodeAfter, IsRootAfter, IsRootAt, look_after_action, look_after_record, look_in_trees, look_through_trees, SameTrees, ShowsAction, ShowsPath, ShowsTick}
-pub use Rattle.block_map.specs.Trie.{as_at, At, at_path, at_root, base_look, base_of_path, child_at, child_of, ChildGivesNone, EntryGivesNone, ExtendsTrie, found_at, found_below, GivesNoMergeinfo, HasLocation, IsBaseOfPath, IsCopiedNode, IsLocationOfPath, IsNodeOf, IsPathBaseOf, IsPositionOf, IsSound, LookOfNumbers, nothing, own_found, path_base_view, position_view, PutsNode, TrieValue}
+pub use Rattle.block_map.specs.Trie.{as_at, At, at_path, at_root, base_look, base_of_path, child_at, child_of, ChildGivesNone, ChildrenGiveNone, ExtendsTrie, found_at, found_below, HasLocation, IsBaseOfPath, IsCopiedNode, IsLocationOfPath, IsNodeOf, IsPathBaseOf, IsPositionOf, IsSound, LookOfNumbers, nothing, own_found, path_base_view, position_view, PutsNode, TrieValue}
 pub use Rattle.block_map.specs.declared.trees.Trees.{Trees}
 pub use Rattle.block_map.specs.declared.trie.child_map.ChildMap.{ChildMap}
 pub use Rattle.block_map.specs.declared.trie.child_map.ChildMap.TheVariants.{Branch, Leaf}

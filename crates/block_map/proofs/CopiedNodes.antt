@@ -6,7 +6,7 @@ use Rattle.block_map.proofs.MergeinfoGiven.{child_of-childless, IsNodeOf-childle
 -- an untouched node makes no difference
 pub child_at-untouched : (trie : TrieValue) (node : Option Node) (over : LookOfNumbers) (name : NameId)
     → child_at trie (record { node = Some (unwrap_or node untouched); base = over }) name ≡ child_at trie (record { node = node; base = over }) name
-child_at-untouched trie None over name = λ i. record { node = child_of-childless trie untouched.own untouched.base untouched.may_give_mergeinfo name i; base = λ rest. over (name ∷ rest) }
+child_at-untouched trie None over name = λ i. record { node = child_of-childless trie untouched.own untouched.base untouched.may_give_mergeinfo_below name i; base = λ rest. over (name ∷ rest) }
 child_at-untouched trie (Some node) over name = refl
 
 pub found_at-untouched : (trie : TrieValue) (node : Option Node) (over : LookOfNumbers)
@@ -15,7 +15,7 @@ found_at-untouched trie None over = refl
 found_at-untouched trie (Some node) over = refl
 
 pub IsNodeOf-untouched : (trie : TrieValue) (node : Option Node) → IfSome node (IsNodeOf trie) → IsNodeOf trie (unwrap_or node untouched)
-IsNodeOf-untouched trie None is = IsNodeOf-childless trie untouched.own untouched.base untouched.may_give_mergeinfo tt (λ none. tt)
+IsNodeOf-untouched trie None is = IsNodeOf-childless trie untouched.own untouched.base untouched.may_give_mergeinfo_below tt
 IsNodeOf-untouched trie (Some node) is = is
 
 -- on a base with what its own one had, a node shows over any other what it showed there

@@ -1,5 +1,5 @@
 -- What is found below the nodes of a trie stays as nodes, maps and locations are added.
-use Rattle.block_map.proofs.Common.{◌≡◌, ℕ, zero, suc, ◌<◌, ◌≤◌, ◌%◌, ◌/◌, ◌==◌, Bool, true, false, List, [], ◌∷◌, ◌++◌, Option, None, Some, IfSome, length, if◌then◌else◌, refl, sym, ap, subst, ◌∙◌, arith, length-append, append-nil, append_assoc, option_and_then, slice_get, get_or_at, same_Some, slice_get-get_or, NameId, slice_get-front, Extends, AreOrdered, HaveNodesBelow, child_in, found_within, child_map_at, At, HasLocation, ChildGivesNone, ExtendsTrie, GivesNoMergeinfo, IsNodeOf, IsSound, LookOfNumbers, TrieValue, at_path, child_at, child_of, found_at, found_below, own_found, base_look, as_at, Node, Base, NodeId, ChildMap, Leaf, Branch, ChildMapId}
+use Rattle.block_map.proofs.Common.{◌≡◌, ℕ, zero, suc, ◌<◌, ◌≤◌, ◌%◌, ◌/◌, ◌==◌, Bool, true, false, List, [], ◌∷◌, ◌++◌, Option, None, Some, IfSome, length, if◌then◌else◌, refl, sym, ap, subst, ◌∙◌, arith, length-append, append-nil, append_assoc, option_and_then, slice_get, get_or_at, same_Some, slice_get-get_or, NameId, slice_get-front, Extends, AreOrdered, HaveNodesBelow, child_in, found_within, child_map_at, At, HasLocation, ChildGivesNone, ChildrenGiveNone, ExtendsTrie, IsNodeOf, IsSound, LookOfNumbers, TrieValue, at_path, child_at, child_of, found_at, found_below, own_found, base_look, as_at, Node, Base, NodeId, ChildMap, Leaf, Branch, ChildMapId}
 use Rattle.block_map.specs.declared.trie.node.Base.TheVariants as base
 use Rattle.block_map.proofs.ChildMapSteps.{found_in_map, found_within-suc, found_within-empty}
 
@@ -117,19 +117,16 @@ module _ (old new : TrieValue) (sound : IsSound old) (grown : ExtendsTrie old ne
   base_look-grown base.Nothing over has = refl
   base_look-grown (base.At id) over has = ap as_at (slice_get-grown old.locations new.locations id.0 grown.locations has)
 
-  -- a node that gives no mergeinfo gives none in the grown trie
-  GivesNoMergeinfo-grown : (node : Node) → IsNodeOf old node → GivesNoMergeinfo old node → GivesNoMergeinfo new node
-  GivesNoMergeinfo-grown node is gives = record {
-    own = gives.own;
-    children = λ name. subst ChildGivesNone (sym (child_of-grown node name is)) (gives.children name);
-  }
+  -- a node whose children give no mergeinfo has such children in the grown trie
+  ChildrenGiveNone-grown : (node : Node) → IsNodeOf old node → ChildrenGiveNone old node → ChildrenGiveNone new node
+  ChildrenGiveNone-grown node is give name = subst ChildGivesNone (sym (child_of-grown node name is)) (give name)
 
   -- a node of the trie is one of the grown trie
   pub IsNodeOf-grown : (node : Node) → IsNodeOf old node → IsNodeOf new node
   IsNodeOf-grown node is = (
     omega (arith, is.0, length-grown old.child_maps new.child_maps grown.child_maps),
     by node.base is.1,
-    λ none. GivesNoMergeinfo-grown node is (is.2 none),
+    λ none. ChildrenGiveNone-grown node is (is.2 none),
   )
     where
       by : (within : Base) → HasLocation old within → HasLocation new within

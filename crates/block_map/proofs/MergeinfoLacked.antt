@@ -1,7 +1,6 @@
--- What is found at and below a node that gives no mergeinfo, and by the trees of a block.
-use Rattle.block_map.proofs.Common.{◌≡◌, ◌⊎◌, ℕ, zero, suc, ◌≤◌, List, [], ◌∷◌, ◌++◌, Option, None, Some, IfSome, inl, inr, refl, sym, ap, subst, ◌∙◌, length, same_name, NameId, ValueId, Record, ShowsTick, end_of_trees, look_in_trees, look_through_trees, Found, absent, at, at_with, is, resolved, with_mergeinfo, IsFoundUpTo, look_from, look_through, mergeinfo_of, ChildGivesNone, EntryGivesNone, IsNodeOf, IsPositionOf, IsLocationOfPath, IsSound, LookOfNumbers, TrieValue, as_at, at_root, base_look, base_of_path, child_of, found_below, own_found, path_base_view, untouched, is_location, Trees, Base, Node, unwrap_or}
+-- What is found below a node whose children give no mergeinfo, and by the trees of a block.
+use Rattle.block_map.proofs.Common.{◌≡◌, ◌⊎◌, ℕ, zero, suc, ◌≤◌, List, [], ◌∷◌, ◌++◌, Option, None, Some, IfSome, inl, inr, refl, sym, ap, subst, ◌∙◌, length, same_name, NameId, ValueId, Record, ShowsTick, end_of_trees, look_in_trees, look_through_trees, Found, absent, at, at_with, is, resolved, with_mergeinfo, IsFoundUpTo, look_from, look_through, mergeinfo_of, ChildGivesNone, IsNodeOf, IsPositionOf, IsLocationOfPath, IsSound, LookOfNumbers, TrieValue, as_at, at_root, base_look, base_of_path, child_of, found_below, own_found, path_base_view, untouched, gives_mergeinfo, is_location, Trees, Base, Node, unwrap_or}
 use Rattle.std.specs.Prelude.{IsFalse}
-use Rattle.std.proofs.lemmas.Bool.{or_parts}
 use Rattle.block_map.specs.MergeinfoBelow.{IsMergeinfoBelow, LacksMergeinfo}
 use Rattle.block_map.specs.declared.mergeinfo_below.MergeinfoBelow.TheVariants as below
 use Rattle.block_map.specs.declared.trie.location.Location.{Location}
@@ -13,6 +12,7 @@ use Rattle.block_map.proofs.CopiedNodes.{IsNodeOf-untouched}
 use Rattle.block_map.proofs.FoundFrom.{IsFoundAtOrBefore-look, IsFoundUpTo-earlier}
 use Rattle.block_map.proofs.GrownTries.{ExtendsTrie-none, IsNodeOf-child_at}
 use Rattle.block_map.proofs.LooksThrough.{look_from-within}
+use Rattle.block_map.proofs.MergeinfoGiven.{GivesNone-from, none-from_is_some}
 use Rattle.block_map.proofs.NodesPut.{found_below-untouched}
 use Rattle.block_map.proofs.Positions.{path_base_view-base_of_path}
 use Rattle.block_map.proofs.RecordNodes.{found_below-append}
@@ -58,10 +58,10 @@ abbrev pub IsOrLacks : Found NameId ValueId → Found NameId ValueId → Type 0
 IsOrLacks found of_base = (found ≡ of_base) ⊎ LacksMergeinfo found
 
 -- at a node whose entry gives none
-own_found-gives_none : (says : OwnEntry) (of_base : Found NameId ValueId) → EntryGivesNone says → IsOrLacks (own_found says of_base) of_base
+own_found-gives_none : (says : OwnEntry) (of_base : Found NameId ValueId) → IsFalse (gives_mergeinfo says) → IsOrLacks (own_found says of_base) of_base
 own_found-gives_none own.AsBase of_base none = inl refl
-own_found-gives_none (own.BaseWithMergeinfo mi) of_base none = inr (LacksMergeinfo-with mi of_base none)
-own_found-gives_none (own.Is kind mi) of_base none = inr none
+own_found-gives_none (own.BaseWithMergeinfo mi) of_base none = inr (LacksMergeinfo-with mi of_base (none-from_is_some mi none))
+own_found-gives_none (own.Is kind mi) of_base none = inr (none-from_is_some mi none)
 own_found-gives_none own.Absent of_base none = inr tt
 
 -- over a base that is no location
@@ -79,31 +79,35 @@ IsOrLacks-base found mid of_base (inr lacks) other = inr lacks
 
 module _ (trie : TrieValue) (sound : IsSound trie) where
   -- what is found at and below a child that gives none
-  found-child_gives_none : (path : List NameId)
-      → ((node : Node) (over : LookOfNumbers) → IsNodeOf trie node → IsFalse node.may_give_mergeinfo
-      → IsOrLacks (found_below trie (record { node = Some node; base = over }) path) (base_look trie node.base over path))
-      → (child : Option Node) (over : LookOfNumbers) → IfSome child (IsNodeOf trie) → ChildGivesNone child
+  pub found-gives_none : (path : List NameId) (child : Option Node) (over : LookOfNumbers) → IfSome child (IsNodeOf trie) → ChildGivesNone child
       → IsOrLacks (found_below trie (record { node = child; base = over }) path) (over path)
-  found-child_gives_none path deeper None over child_is none = inl (found_below-none trie over path)
-  found-child_gives_none path deeper (Some node) over child_is none =
-      let (node_none, base_none) = or_parts node.may_give_mergeinfo (is_location node.base) none in
-      IsOrLacks-base (found_below trie (record { node = Some node; base = over }) path) (base_look trie node.base over path) (over path)
-      (deeper node over child_is node_none) (base_look-no_location trie node.base over path base_none)
+  found-gives_none path None over child_is none = inl (found_below-none trie over path)
+  found-gives_none [] (Some node) over child_is none =
+      let gives = GivesNone-from node none in
+      IsOrLacks-base (own_found node.own (base_look trie node.base over [])) (base_look trie node.base over []) (over [])
+      (own_found-gives_none node.own (base_look trie node.base over []) gives.own) (base_look-no_location trie node.base over [] gives.base)
+  found-gives_none (name ∷ path) (Some node) over child_is none =
+      let gives = GivesNone-from node none in
+      let whole = name ∷ path in
+      IsOrLacks-base (found_below trie (record { node = Some node; base = over }) whole) (base_look trie node.base over whole) (over whole)
+      (found-gives_none path (child_of trie node name) (λ rest. base_look trie node.base over (name ∷ rest))
+      (IsNodeOf-child_at trie trie sound (ExtendsTrie-none trie) (record { node = Some node; base = over }) name child_is) (child_is.2 gives.below name))
+      (base_look-no_location trie node.base over whole gives.base)
 
-  -- what is found at and below a node that gives none
-  pub found-gives_none : (path : List NameId) (node : Node) (over : LookOfNumbers) → IsNodeOf trie node → IsFalse node.may_give_mergeinfo
-      → IsOrLacks (found_below trie (record { node = Some node; base = over }) path) (base_look trie node.base over path)
-  found-gives_none [] node over node_is none = own_found-gives_none node.own (base_look trie node.base over []) (node_is.2 none).own
-  found-gives_none (name ∷ path) node over node_is none =
-      found-child_gives_none path (found-gives_none path) (child_of trie node name) (λ rest. base_look trie node.base over (name ∷ rest))
-      (IsNodeOf-child_at trie trie sound (ExtendsTrie-none trie) (record { node = Some node; base = over }) name node_is) ((node_is.2 none).children name)
+  -- what is found below a node whose children give none
+  pub found_below-gives_none : (name : NameId) (path : List NameId) (node : Node) (over : LookOfNumbers) → IsNodeOf trie node → IsFalse node.may_give_mergeinfo_below
+      → IsOrLacks (found_below trie (record { node = Some node; base = over }) (name ∷ path)) (base_look trie node.base over (name ∷ path))
+  found_below-gives_none name path node over node_is none =
+      found-gives_none path (child_of trie node name) (λ rest. base_look trie node.base over (name ∷ rest))
+      (IsNodeOf-child_at trie trie sound (ExtendsTrie-none trie) (record { node = Some node; base = over }) name node_is) (node_is.2 none name)
 
-  -- what is found at and below a path where the node gives none
+  -- what is found below a path where the children of the node give none
   pub IsMergeinfoBelow-found : (root : Node) (path : List NameId) (position : Position) (location : Option Location) → IsPositionOf trie root path position
-      → IsFalse (unwrap_or position.node untouched).may_give_mergeinfo
+      → IsFalse (unwrap_or position.node untouched).may_give_mergeinfo_below
       → IsLocationOfPath trie path (base_of_path (unwrap_or position.node untouched).base position.base (length path)) location
       → IsMergeinfoBelow (λ rest. found_below trie (at_root root) (path ++ rest)) (below.AsAt location)
-  IsMergeinfoBelow-found root path position location at_is none location_is rest =
+  IsMergeinfoBelow-found root path position location at_is none location_is name more =
+      let rest = name ∷ more in
       let node = unwrap_or position.node untouched in
       let over = path_base_view trie path position.base in
       let found_is : found_below trie (at_root root) (path ++ rest) ≡ found_below trie (record { node = Some node; base = over }) rest =
@@ -111,7 +115,7 @@ module _ (trie : TrieValue) (sound : IsSound trie) where
       ∙ found_below-untouched trie position.node over rest in
       let base_is : base_look trie node.base over rest ≡ as_at location rest =
       ap (λ look. look rest) (sym (path_base_view-base_of_path trie node.base path position.base)) ∙ sym (location_is rest) in
-      elim (found-gives_none rest node over (IsNodeOf-untouched trie position.node at_is.node) none) [
+      elim (found_below-gives_none name more node over (IsNodeOf-untouched trie position.node at_is.node) none) [
         | inl same ↦ inl (found_is ∙ same ∙ base_is)
         | inr lacks ↦ inr (subst LacksMergeinfo (sym found_is) lacks)
       ]
@@ -123,11 +127,12 @@ pub IsMergeinfoBelow-after : (trees : Trees) (root : Node) (found : Location) (b
     → IsMergeinfoBelow (λ rest. found_below trees.trie (at_root root) (found.path ++ rest)) (below.AsAt base)
     → ((rest : List NameId) → IsFoundUpTo trees.start (as_at base rest) → as_at kept rest ≡ as_at base rest)
     → IsMergeinfoBelow (λ rest. resolved trees.start (look_through_trees trees (as_at (Some found) rest))) (below.AsAt kept)
-IsMergeinfoBelow-after trees root found base kept within shows below_is same rest =
+IsMergeinfoBelow-after trees root found base kept within shows below_is same name more =
+    let rest = name ∷ more in
     let path = found.path ++ rest in
     let says : resolved trees.start (look_through_trees trees (as_at (Some found) rest)) ≡ look_in_trees trees found.tick path =
     ap (resolved trees.start) (look_from-within same_name trees.start trees.records.items found.tick path within) in
-    elim (below_is rest) [
+    elim (below_is name more) [
       | inl shown ↦
           let of_base : as_at base rest ≡ look_in_trees trees found.tick path = sym shown ∙ shows path in
           let earlier = IsFoundUpTo-earlier trees.start (look_in_trees trees found.tick path) (IsFoundAtOrBefore-look same_name trees.start trees.records.items found.tick path) in

@@ -1,5 +1,5 @@
 -- What is found below a node where another one was put at a path.
-use Rattle.block_map.proofs.Common.{◌≡◌, ◌==◌, true, false, List, [], ◌∷◌, ◌++◌, Option, None, Some, IfSome, length, if◌then◌else◌, inl, inr, refl, sym, ap, subst, ◌∙◌, option_and_then, slice_get, cases_Bool, ValueId, below, same_name, NameId, IsSame-same_name, Found, untouched, may_give_below, Extends, SetsChild, child_in, At, ChildGivesNone, ExtendsTrie, GivesNoMergeinfo, IsNodeOf, IsSound, LookOfNumbers, PutsNode, TrieValue, at_path, child_at, child_of, found_below, own_found, base_look, Node, NodeId, ChildMapId}
+use Rattle.block_map.proofs.Common.{◌≡◌, ◌==◌, true, false, List, [], ◌∷◌, ◌++◌, Option, None, Some, IfSome, length, if◌then◌else◌, inl, inr, refl, sym, ap, subst, ◌∙◌, option_and_then, slice_get, cases_Bool, ValueId, below, same_name, NameId, IsSame-same_name, Found, untouched, may_give_mergeinfo, Extends, SetsChild, child_in, At, ChildGivesNone, ChildrenGiveNone, ExtendsTrie, IsNodeOf, IsSound, LookOfNumbers, PutsNode, TrieValue, at_path, child_at, child_of, found_below, own_found, base_look, Node, NodeId, ChildMapId}
 use Rattle.std.specs.Option.{unwrap_or}
 use Rattle.std.specs.Prelude.{◌||◌, ◌≤◌, IsFalse}
 use Rattle.std.proofs.lemmas.Bool.{or_parts}
@@ -44,7 +44,7 @@ module _ (old new : TrieValue) (node child : Node) (name : NameId) (id : NodeId)
 
   -- the node with the child
   abbrev with_child : Node
-  with_child = record node { children = children; may_give_mergeinfo = node.may_give_mergeinfo || may_give_below child }
+  with_child = record node { children = children; may_give_mergeinfo_below = node.may_give_mergeinfo_below || may_give_mergeinfo child }
 
   -- the child of the name is the one that was put
   child_of-put : PutsChild → (other : NameId) → (name.0 == other.0) ≡ true → child_of new with_child other ≡ Some child
@@ -64,25 +64,21 @@ module _ (old new : TrieValue) (node child : Node) (name : NameId) (id : NodeId)
       (puts.sets other.0 ∙ ap (λ same. if same then Some id else child_in old.child_maps node.children other.0) turned
       ∙ sym (child_in-grown old.child_maps new.child_maps puts.sound.ordered puts.child_maps node.children other.0 puts.node_is.0))
 
-  -- it gives no mergeinfo if the node and the child gave none
-  GivesNoMergeinfo-child : PutsChild → IsFalse with_child.may_give_mergeinfo → GivesNoMergeinfo new with_child
-  GivesNoMergeinfo-child puts none =
-      let (node_none, child_none) = or_parts node.may_give_mergeinfo (may_give_below child) none in
-      let gives = puts.node_is.2 node_none in
-      record {
-        own = gives.own;
-        children = λ other. elim (cases_Bool (name.0 == other.0)) [
-          | inl is ↦ subst ChildGivesNone (sym (child_of-put puts other is)) child_none
-          | inr is ↦
-              let kept = child_of-kept puts other is ∙ child_of-grown old new puts.sound (ExtendsTrie-child puts) node other puts.node_is in
-              subst ChildGivesNone (sym kept) (gives.children other)
-        ];
-      }
+  -- its children give no mergeinfo if those of the node and the child gave none
+  ChildrenGiveNone-child : PutsChild → IsFalse with_child.may_give_mergeinfo_below → ChildrenGiveNone new with_child
+  ChildrenGiveNone-child puts none other =
+      let (node_none, child_none) = or_parts node.may_give_mergeinfo_below (may_give_mergeinfo child) none in
+      elim (cases_Bool (name.0 == other.0)) [
+        | inl is ↦ subst ChildGivesNone (sym (child_of-put puts other is)) child_none
+        | inr is ↦
+            let kept = child_of-kept puts other is ∙ child_of-grown old new puts.sound (ExtendsTrie-child puts) node other puts.node_is in
+            subst ChildGivesNone (sym kept) (puts.node_is.2 node_none other)
+      ]
 
   -- so it is a node of the trie with the child
   pub IsNodeOf-child : PutsChild → children.0 ≤ length new.child_maps → IsNodeOf new with_child
   IsNodeOf-child puts within =
-      (within, (IsNodeOf-grown old new puts.sound (ExtendsTrie-child puts) node puts.node_is).1, GivesNoMergeinfo-child puts)
+      (within, (IsNodeOf-grown old new puts.sound (ExtendsTrie-child puts) node puts.node_is).1, ChildrenGiveNone-child puts)
 
   -- below the node the child was put at the name
   pub PutsNode-child : PutsChild → PutsNode old new (Some node) (name ∷ []) child with_child

@@ -6,7 +6,6 @@ use Rattle.block_map.specs.declared.trie.node.OwnEntry.{OwnEntry}
 use Rattle.block_map.specs.declared.trie.node.OwnEntry.TheVariants as own
 use Rattle.block_map.proofs.TreesNodes.{found_below-childless}
 use Rattle.block_map.proofs.CopiedNodes.{child_at-untouched, found_at-untouched}
-use Rattle.block_map.proofs.MergeinfoGiven.{IsNodeOf-with_mergeinfo}
 
 -- ---- what trees show
 
@@ -57,7 +56,7 @@ child_at-with_setting trie (put mi) node over name = refl
 
 pub IsNodeOf-with_setting : (trie : TrieValue) (setting : Setting ValueId) (node : Node) → IsNodeOf trie node → IsNodeOf trie (node_with_setting setting node)
 IsNodeOf-with_setting trie keep node is = is
-IsNodeOf-with_setting trie (put mi) node is = IsNodeOf-with_mergeinfo trie mi node is
+IsNodeOf-with_setting trie (put mi) node is = is
 
 -- ---- the actions of records
 
@@ -75,7 +74,7 @@ module _ (trees : Trees) (root : Node) (path : List NameId) where
   ShowsAction-add replace kind setting [] = sym (resolved-is trees.start kind (mergeinfo_after setting None))
   ShowsAction-add replace kind setting (name ∷ rest) =
       let node = node_of_kind kind (mergeinfo_after setting None) in
-      found_below-childless trees.trie node.own node.base node.may_give_mergeinfo (at_path trees.trie (at_root root) path).base name rest ∙ sym (resolved-absent trees.start)
+      found_below-childless trees.trie node.own node.base node.may_give_mergeinfo_below (at_path trees.trie (at_root root) path).base name rest ∙ sym (resolved-absent trees.start)
 
   pub ShowsAction-change : (mi : Option ValueId) → ShowsTick trees (end_of_trees trees) root
       → ShowsAction trees root path (change (put mi)) (node_with_mergeinfo mi (unwrap_or (at_path trees.trie (at_root root) path).node untouched))

@@ -15,7 +15,7 @@ found_below-none trie over (name ∷ path) = found_below-none trie (λ rest. ove
 
 -- below a node without children everything is found as in its base
 pub found_below-childless : (trie : TrieValue) (own : OwnEntry) (base : Base) (may : Bool) (over : LookOfNumbers) (name : NameId) (path : List NameId)
-    → found_below trie (record { node = Some (record { own = own; base = base; children = no_children; may_give_mergeinfo = may }); base = over }) (name ∷ path)
+    → found_below trie (record { node = Some (record { own = own; base = base; children = no_children; may_give_mergeinfo_below = may }); base = over }) (name ∷ path)
     ≡ base_look trie base over (name ∷ path)
 found_below-childless trie own base may over name path =
     ap (λ child. found_below trie (record { node = child; base = λ rest. base_look trie base over (name ∷ rest) }) path)

@@ -33,5 +33,5 @@ node_of stored = record {
   own = own_entry_of stored.own (if stored.has_mergeinfo then Some stored.mergeinfo else None);
   base = base_of stored.base stored.location;
   children = stored.children;
-  may_give_mergeinfo = stored.may_give_mergeinfo;
+  may_give_mergeinfo_below = stored.may_give_mergeinfo_below;
 }

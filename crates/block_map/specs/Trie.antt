@@ -6,7 +6,7 @@ use Rattle.svn_path.specs.declared.names.NameId.{NameId}
 use Rattle.svn_dump.specs.declared.record.ValueId.{ValueId}
 use Rattle.block_map.specs.Look.{Found, Look, at, is, absent, with_mergeinfo}
 use Rattle.block_map.specs.ChildMaps.{Extends, AreOrdered, HaveNodesBelow, child_in}
-use Rattle.block_map.specs.Node.{may_give_below}
+use Rattle.block_map.specs.Node.{may_give_mergeinfo}
 use Rattle.block_map.specs.Standing.{Standing, standing_of}
 use Rattle.block_map.specs.declared.trie.node.OwnEntry.{OwnEntry}
 use Rattle.block_map.specs.declared.trie.node.OwnEntry.TheVariants as own
@@ -97,26 +97,18 @@ HasLocation trie base.OfParent = Unit {0}
 HasLocation trie base.Nothing = Unit {0}
 HasLocation trie (base.At id) = id.0 < length trie.locations
 
--- the entry of a node gives no mergeinfo to its own path
-abbrev pub EntryGivesNone : OwnEntry → Type 0
-EntryGivesNone own.AsBase = Unit {0}
-EntryGivesNone (own.BaseWithMergeinfo mi) = mi ≡ None
-EntryGivesNone (own.Is kind mi) = mi ≡ None
-EntryGivesNone own.Absent = Unit {0}
-
--- a child gives none, if there is one
+-- a child gives no mergeinfo, if there is one
 abbrev pub ChildGivesNone : Option Node → Type 0
-ChildGivesNone child = IfSome child (λ node. IsFalse (may_give_below node))
+ChildGivesNone child = IfSome child (λ node. IsFalse (may_give_mergeinfo node))
 
--- neither the entry of the node nor a child of it gives mergeinfo
-pub record GivesNoMergeinfo (trie : TrieValue) (node : Node) : Type 0 where
-  pub own : EntryGivesNone node.own
-  pub children : (name : NameId) → ChildGivesNone (child_of trie node name)
+-- no child of the node gives any
+abbrev pub ChildrenGiveNone : TrieValue → Node → Type 0
+ChildrenGiveNone trie node = (name : NameId) → ChildGivesNone (child_of trie node name)
 
--- the children and the location of the node are those of the trie, and it gives no mergeinfo unless it may
+-- the children and the location of the node are those of the trie, and no child gives mergeinfo unless one may
 abbrev pub IsNodeOf : TrieValue → Node → Type 0
 IsNodeOf trie node =
-    (node.children.0 ≤ length trie.child_maps) × HasLocation trie node.base × (IsFalse node.may_give_mergeinfo → GivesNoMergeinfo trie node)
+    (node.children.0 ≤ length trie.child_maps) × HasLocation trie node.base × (IsFalse node.may_give_mergeinfo_below → ChildrenGiveNone trie node)
 
 pub record IsSound (trie : TrieValue) : Type 0 where
   pub ordered : AreOrdered trie.child_maps

@@ -304,7 +304,7 @@ impl Trees {
         Ok(up_to(base, self.start))
     }
 
-    /// What these records say of the mergeinfo at and below a location that later records found.
+    /// What these records say of the mergeinfo below a location that later records found.
     pub(crate) fn mergeinfo_below(&self, found: Location) -> Result<MergeinfoBelow, AllocError>
         requires trees { AreTrees self.now }
         requires within { found.tick ≤ end_of_trees self.now }

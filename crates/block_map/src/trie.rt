@@ -160,7 +160,7 @@ impl Trie {
         let children = self.child_maps.set(node.children, name, id)?;
         Ok(Node {
             children,
-            may_give_mergeinfo: node.may_give_mergeinfo || child.may_give_below(),
+            may_give_mergeinfo_below: node.may_give_mergeinfo_below || child.may_give_mergeinfo(),
             ..node
         })
     }
@@ -383,7 +383,7 @@ impl Trie {
         self.location(base, path)
     }
 
-    /// What is known of the mergeinfo at and below a path below a root.
+    /// What is known of the mergeinfo below a path below a root.
     pub(crate) fn mergeinfo_below(
         &self,
         root: Node,
@@ -394,7 +394,7 @@ impl Trie {
     {
         let position = self.find(root, path);
         let node = Node::or_untouched(position.node);
-        if node.may_give_mergeinfo {
+        if node.may_give_mergeinfo_below {
             return Ok(MergeinfoBelow::Maybe);
         }
         let base = base_of_path(node.base, position.base, path.len());

@@ -1,4 +1,4 @@
-//! Whether paths at or below a path may have mergeinfo, by a map of two parts of a history.
+//! Whether paths below a path may have mergeinfo, by a map of two parts of a history.
 ghost use Rattle.block_map.specs.Map.{IsMapOf};
 
 use crate::joins::map_of_both;
@@ -10,12 +10,12 @@ use std::alloc::Global;
 use std::test::Fail;
 use svn_dump::{Dump, read};
 
-// Whether a path may have mergeinfo at or below it after all records.
+// Whether a path may have mergeinfo below it after all records.
 fn may_have(alloc: Global, dump: &Dump, map: &Map, path: &[u8]) -> Result<bool, Fail>
     requires { IsMapOf dump.now map.now }
 {
     let path = path_of(alloc, dump, path)?;
-    let may = map.may_have_mergeinfo(map.hi(), &path);
+    let may = map.may_have_mergeinfo_below(map.hi(), &path);
     drop(path);
     Ok(may?)
 }
@@ -32,11 +32,11 @@ fn may_have_in_both(alloc: Global, dump: &Dump, path: &[u8]) -> Result<bool, Fai
 }
 
 #[test]
-fn a_path_above_mergeinfo_may_have_some_and_one_without_has_none(
+fn a_path_above_mergeinfo_may_have_some_and_one_with_its_own_alone_has_none(
     rt: HostRuntime,
 ) -> Result<(), Fail> {
     let dump = read(rt.alloc(), MERGED)?;
-    for (path, wanted) in [(b"/".as_slice(), true), (b"/branches/b/f", false)] {
+    for (path, wanted) in [(b"/".as_slice(), true), (b"/trunk", false)] {
         let may = may_have_in_both(rt.alloc(), &dump, path)?;
         assert!(rt; may == wanted);
     }

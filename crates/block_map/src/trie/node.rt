@@ -1,7 +1,7 @@
 //! What trees have at a path and below it, in nodes that they share.
 ghost use Rattle.std.specs.Prelude.{◌≡◌, unwrap_or};
 ghost use Rattle.svn_dump.specs.Dump.{setting_view};
-ghost use Rattle.block_map.specs.Node.{absent_node, may_give_below, node_at_location, node_of_kind, node_with_mergeinfo, node_with_setting, untouched};
+ghost use Rattle.block_map.specs.Node.{absent_node, gives_mergeinfo, may_give_mergeinfo, node_at_location, node_of_kind, node_with_mergeinfo, node_with_setting, untouched};
 
 use crate::trie::child_map::ChildMapId;
 use crate::trie::location::LocationId;
@@ -22,6 +22,18 @@ pub(crate) enum OwnEntry {
     Absent,
 }
 
+impl OwnEntry {
+    /// Whether it gives mergeinfo to its path, other than what its base has there.
+    fn gives_mergeinfo(self) -> bool
+        ensures { result ≡ gives_mergeinfo self }
+    {
+        match self {
+            OwnEntry::AsBase | OwnEntry::Absent => false,
+            OwnEntry::BaseWithMergeinfo(mi) | OwnEntry::Is { mi, .. } => mi.is_some(),
+        }
+    }
+}
+
 /// What a path and those below it have where neither the node of the path nor its children say otherwise.
 #[derive(Clone, Copy)]
 pub(crate) enum Base {
@@ -38,8 +50,8 @@ pub(crate) struct Node {
     pub(crate) own: OwnEntry,
     pub(crate) base: Base,
     pub(crate) children: ChildMapId,
-    /// Whether it or a node below it may give mergeinfo to a path, other than what its base has there.
-    pub(crate) may_give_mergeinfo: bool,
+    /// Whether a node below it may give mergeinfo to a path, other than what its base has there.
+    pub(crate) may_give_mergeinfo_below: bool,
 }
 
 impl Node {
@@ -51,7 +63,7 @@ impl Node {
             own: OwnEntry::AsBase,
             base: Base::OfParent,
             children: ChildMapId(0),
-            may_give_mergeinfo: false,
+            may_give_mergeinfo_below: false,
         })
     }
 
@@ -63,7 +75,7 @@ impl Node {
             own: OwnEntry::Absent,
             base: Base::Nothing,
             children: ChildMapId(0),
-            may_give_mergeinfo: false,
+            may_give_mergeinfo_below: false,
         }
     }
 
@@ -75,7 +87,7 @@ impl Node {
             own: OwnEntry::Is { kind, mi },
             base: Base::Nothing,
             children: ChildMapId(0),
-            may_give_mergeinfo: mi.is_some(),
+            may_give_mergeinfo_below: false,
         }
     }
 
@@ -87,15 +99,17 @@ impl Node {
             own: OwnEntry::AsBase,
             base: Base::At(location),
             children: ChildMapId(0),
-            may_give_mergeinfo: false,
+            may_give_mergeinfo_below: false,
         }
     }
 
     /// Whether it may give mergeinfo to its path or one below it, other than what the base of its parent has there.
-    pub(crate) fn may_give_below(self) -> bool
-        ensures { result ≡ may_give_below self }
+    pub(crate) fn may_give_mergeinfo(self) -> bool
+        ensures { result ≡ may_give_mergeinfo self }
     {
-        self.may_give_mergeinfo || matches!(self.base, Base::At(_))
+        self.may_give_mergeinfo_below
+            || self.own.gives_mergeinfo()
+            || matches!(self.base, Base::At(_))
     }
 
     /// The node with this mergeinfo, if anything stands there.
@@ -107,11 +121,7 @@ impl Node {
             OwnEntry::Is { kind, .. } => OwnEntry::Is { kind, mi },
             OwnEntry::Absent => OwnEntry::Absent,
         };
-        Node {
-            own,
-            may_give_mergeinfo: self.may_give_mergeinfo || mi.is_some(),
-            ..self
-        }
+        Node { own, ..self }
     }
 
     /// The node with the mergeinfo that a record leaves.

@@ -36,7 +36,7 @@ pub(crate) struct StoredNode {
     own: StoredOwnEntry,
     base: StoredBase,
     has_mergeinfo: bool,
-    may_give_mergeinfo: bool,
+    may_give_mergeinfo_below: bool,
 }
 
 const _: () = prove!(size_of::<StoredNode>() == 16);
@@ -55,7 +55,7 @@ impl StoredNode {
             own,
             base,
             has_mergeinfo: mergeinfo.is_some(),
-            may_give_mergeinfo: node.may_give_mergeinfo,
+            may_give_mergeinfo_below: node.may_give_mergeinfo_below,
         }
     }
 
@@ -72,7 +72,7 @@ impl StoredNode {
             own: own_entry(self.own, mergeinfo),
             base: base(self.base, self.location),
             children: self.children,
-            may_give_mergeinfo: self.may_give_mergeinfo,
+            may_give_mergeinfo_below: self.may_give_mergeinfo_below,
         }
     }
 }

@@ -1,8 +1,8 @@
-use Rattle.block_map.proofs.Common.{◌≡◌, ◌≤◌, List, None, Some, arith, subst, IfOk-weaker, same_name, NameId, AreBlocksFrom, block_records, block_trees, look, mergeinfo_of, resolved}
+use Rattle.block_map.proofs.Common.{◌≡◌, ◌≤◌, List, ◌∷◌, None, Some, arith, subst, IfOk-weaker, same_name, NameId, AreBlocksFrom, block_records, block_trees, look, mergeinfo_of, resolved}
 use Rattle.std.specs.Prelude.{IsFalse}
-use Rattle.block_map.specs.MergeinfoBelow.{LackMergeinfo}
+use Rattle.block_map.specs.MergeinfoBelow.{LackMergeinfoBelow}
 use Rattle.block_map.proofs.BlocksOfMaps.{AreBlocksFrom-front, end-front, end_of_blocks}
-use Rattle.block_map.proofs.MergeinfoInBlocks.{LackMergeinfo-blocks, mergeinfo_through}
+use Rattle.block_map.proofs.MergeinfoInBlocks.{LackMergeinfoBelow-blocks, mergeinfo_through}
 use Rattle.block_map.proofs.mergeinfo_below.may_be_in_blocks.Goals as goal
 
 pub may_be_through-requires-clause-in_order : goal.may_be_through-requires-clause-in_order
@@ -22,7 +22,7 @@ returns c =
     let all = block_trees c.args.blocks.now in
     let front = block_trees c.blocks_before.result.now in
     let location = c.args.location in
-    IfOk-weaker c.may_be_through.result (λ may. IsFalse may → (rest : List NameId) → mergeinfo_through front (Some location) rest ≡ None)
-    (λ may. IsFalse may → LackMergeinfo (λ path. mergeinfo_of (resolved 0 (look same_name 0 (block_records all) location.tick path))) location.path)
-    (λ may lacks is_false. LackMergeinfo-blocks all front location c.requires.in_order c.blocks_before.ensures c.requires.within (lacks is_false))
+    IfOk-weaker c.may_be_through.result (λ may. IsFalse may → (name : NameId) (rest : List NameId) → mergeinfo_through front (Some location) (name ∷ rest) ≡ None)
+    (λ may. IsFalse may → LackMergeinfoBelow (λ path. mergeinfo_of (resolved 0 (look same_name 0 (block_records all) location.tick path))) location.path)
+    (λ may lacks is_false. LackMergeinfoBelow-blocks all front location c.requires.in_order c.blocks_before.ensures c.requires.within (lacks is_false))
     c.may_be_through.ensures

@@ -39,7 +39,7 @@ loop-last-preserved c =
     )
 
 pub returns-in_default-below : goal.returns-in_default-below
-returns-in_default-below c = λ is_false rest.
+returns-in_default-below c = λ is_false name rest.
     let all = block_trees c.args.blocks.now in
     let earlier = block_trees c.in-Some.earlier.now in
     let block = c.deref.result.now in
@@ -50,4 +50,4 @@ returns-in_default-below c = λ is_false rest.
     LackAsLeft-earlier all earlier c.args.found before None block are
     (subst (λ left. LackAsLeft all c.args.found left (Some before)) split c.loop-last.invariant.2)
     (subst (IsMergeinfoBelow (λ rest. resolved block.start (look_through_trees block (as_at (Some before) rest)))) below_is c.in_ok-below.ensures.says)
-    rest refl
+    name rest refl

@@ -2,14 +2,14 @@ use Rattle.block_map.proofs.Common.{◌≡◌, unwrap_or, get_or, subst, ap, ◌
 use Rattle.svn_dump.specs.declared.record.Act.TheVariants as act
 use Rattle.svn_dump.specs.declared.record.Mi.TheVariants as mi
 use Rattle.block_map.proofs.CopiedNodes.{IsNodeOf-untouched}
-use Rattle.block_map.proofs.MergeinfoGiven.{IsNodeOf-childless, IsNodeOf-with_mergeinfo, none-from_is_some}
+use Rattle.block_map.proofs.MergeinfoGiven.{IsNodeOf-childless}
 use Rattle.block_map.proofs.RecordNodes.{IsNodeOf-with_setting, ShowsAction-add, ShowsAction-change, ShowsAction-copy, ShowsAction-delete}
 use Rattle.block_map.proofs.trees.Trees.node_after.Goals as goal
 
 pub returns-in-Delete-clause-after : goal.returns-in-Delete-clause-after
 returns-in-Delete-clause-after c =
     let trees = c.args.self.now in
-    let sound = IsNodeOf-childless trees.trie absent_node.own absent_node.base absent_node.may_give_mergeinfo tt (λ none. tt) in
+    let sound = IsNodeOf-childless trees.trie absent_node.own absent_node.base absent_node.may_give_mergeinfo_below tt in
     rw (c.absent.ensures, c.in-Delete.is) (sound, ShowsAction-delete trees c.args.root c.args.each.now.path)
 
 pub returns-in-Add-clause-after : goal.returns-in-Add-clause-after
@@ -17,7 +17,7 @@ returns-in-Add-clause-after c =
     let trees = c.args.self.now in
     let mi = mergeinfo_after (setting_view c.in-Add.mi) None in
     let node = node_of_kind c.in-Add.kind mi in
-    let sound = IsNodeOf-childless trees.trie node.own node.base node.may_give_mergeinfo tt (none-from_is_some mi) in
+    let sound = IsNodeOf-childless trees.trie node.own node.base node.may_give_mergeinfo_below tt in
     rw (c.is.ensures, c.mergeinfo_of_addition.ensures, c.in-Add.is)
     (sound, ShowsAction-add trees c.args.root c.args.each.now.path c.in-Add.replace c.in-Add.kind (setting_view c.in-Add.mi))
 
@@ -32,7 +32,7 @@ returns-in-Put-clause-after c =
     let sound : IsNodeOf trees.trie c.or_untouched.result = rw c.or_untouched.ensures (IsNodeOf-untouched trees.trie position.node found.node) in
     let act : c.args.each.now.act ≡ act.Change (mi.Put c.in-Put.mi) = c.in-Change.is ∙ ap act.Change c.in-Put.is in
     rw (c.with_mergeinfo.ensures, untouched_is, act)
-    (IsNodeOf-with_mergeinfo trees.trie c.in-Put.mi (unwrap_or from.node untouched) (subst (IsNodeOf trees.trie) untouched_is sound), ShowsAction-change trees c.args.root path c.in-Put.mi c.requires.shows)
+    (subst (IsNodeOf trees.trie) untouched_is sound, ShowsAction-change trees c.args.root path c.in-Put.mi c.requires.shows)
 
 pub returns-in_ok-node-in-Copy-clause-after : goal.returns-in_ok-node-in-Copy-clause-after
 returns-in_ok-node-in-Copy-clause-after c =

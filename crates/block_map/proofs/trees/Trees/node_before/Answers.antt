@@ -9,13 +9,13 @@ pub returns-then-is_empty-clause-sound : goal.returns-then-is_empty-clause-sound
 returns-then-is_empty-clause-sound c =
     let node = node_of_kind Dir None in
     let trie = c.args.self.now.trie in
-    subst (IsNodeOf trie) (sym c.is.ensures) (IsNodeOf-childless trie node.own node.base node.may_give_mergeinfo tt (λ none. refl))
+    subst (IsNodeOf trie) (sym c.is.ensures) (IsNodeOf-childless trie node.own node.base node.may_give_mergeinfo_below tt)
 
 pub returns-else-is_empty-clause-sound : goal.returns-else-is_empty-clause-sound
 returns-else-is_empty-clause-sound c =
     let trie = c.args.self.now.trie in
     subst (IsNodeOf trie) (sym c.absent.ensures)
-    (IsNodeOf-childless trie absent_node.own absent_node.base absent_node.may_give_mergeinfo tt (λ none. tt))
+    (IsNodeOf-childless trie absent_node.own absent_node.base absent_node.may_give_mergeinfo_below tt)
 
 pub returns-clause-sound : goal.returns-clause-sound
 returns-clause-sound c =
@@ -24,7 +24,7 @@ returns-clause-sound c =
     let node = node_at_location id in
     let count = ap (λ (each : TrieValue). length each.locations) c.in_ok-location.ensures.added ∙ length_push c.args.self.now.trie.locations _ in
     let within : id.0 < length trie.locations = omega (arith, c.in_ok-location.ensures.id, count) in
-    subst (IsNodeOf trie) (sym c.at.ensures) (IsNodeOf-childless trie node.own node.base node.may_give_mergeinfo within (λ none. tt))
+    subst (IsNodeOf trie) (sym c.at.ensures) (IsNodeOf-childless trie node.own node.base node.may_give_mergeinfo_below within)
 
 pub returns-then-is_empty-clause-shows : goal.returns-then-is_empty-clause-shows
 returns-then-is_empty-clause-shows c =

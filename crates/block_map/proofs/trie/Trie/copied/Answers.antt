@@ -10,7 +10,7 @@ returns-clause-sound c =
     let node = c.or_untouched-node.result in
     let before = subst (IsNodeOf old) (sym c.or_untouched-node.ensures) (IsNodeOf-untouched old c.args.position.node c.requires.node) in
     let is = IsNodeOf-grown old c.node_base.new.self c.node_base.ensures.before c.in_ok-base.ensures.grown node before in
-    (is.0, c.in_ok-base.ensures.location, λ none. record { own = (is.2 none).own; children = (is.2 none).children })
+    (is.0, c.in_ok-base.ensures.location, is.2)
 
 pub returns-clause-exact : goal.returns-clause-exact
 returns-clause-exact c =

@@ -10,7 +10,7 @@ returns c =
     let position = c.find-position.result in
     let location = c.in_ok-location.field-0 in
     let node : Node = unwrap_or position.node untouched in
-    let none = subst (λ (each : Node). IsFalse each.may_give_mergeinfo) c.or_untouched-node.ensures c.if-node.false in
+    let none = subst (λ (each : Node). IsFalse each.may_give_mergeinfo_below) c.or_untouched-node.ensures c.if-node.false in
     let base : c.base_of_path-base.result ≡ base_of_path node.base position.base (length path) =
     c.base_of_path-base.ensures ∙ ap (λ (each : Node). base_of_path each.base position.base (length path)) c.or_untouched-node.ensures in
     IsMergeinfoBelow-found trie c.location.ensures.sound c.args.root path position location c.find-position.ensures none

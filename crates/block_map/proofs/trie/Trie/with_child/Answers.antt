@@ -1,4 +1,4 @@
-use Rattle.block_map.proofs.Common.{◌≡◌, ◌<◌, ap, arith, length, length_push, subst, sym, ◌∙◌, may_give_below, Extends, IsNodeOf, PutsNode, SetsChild, TrieValue, [], ◌∷◌, Some}
+use Rattle.block_map.proofs.Common.{◌≡◌, ◌<◌, ap, arith, length, length_push, subst, sym, ◌∙◌, may_give_mergeinfo, Extends, IsNodeOf, PutsNode, SetsChild, TrieValue, [], ◌∷◌, Some}
 use Rattle.std.specs.Prelude.{◌||◌}
 use Rattle.std.proofs.lemmas.Bool.{or_left}
 use Rattle.block_map.proofs.NodesPut.{IsNodeOf-child, PutsChild, PutsNode-child}
@@ -48,16 +48,16 @@ puts_child c =
     }
 
 -- the mark of the node is that of both
-may_is : (c : Joined-node) → c.if-node.result ≡ (c.args.node.may_give_mergeinfo || may_give_below c.args.child)
+may_is : (c : Joined-node) → c.if-node.result ≡ (c.args.node.may_give_mergeinfo_below || may_give_mergeinfo c.args.child)
 may_is c = elim c.if-node.branch [
-  | then-node w ↦ w.result-is ∙ w.if-node.true ∙ sym (or_left c.args.node.may_give_mergeinfo (may_give_below c.args.child) w.if-node.true)
-  | else-node w ↦ w.result-is ∙ w.may_give_below.ensures ∙ sym (ap (λ may. may || may_give_below c.args.child) w.if-node.false)
+  | then-node w ↦ w.result-is ∙ w.if-node.true ∙ sym (or_left c.args.node.may_give_mergeinfo_below (may_give_mergeinfo c.args.child) w.if-node.true)
+  | else-node w ↦ w.result-is ∙ w.may_give_mergeinfo.ensures ∙ sym (ap (λ may. may || may_give_mergeinfo c.args.child) w.if-node.false)
 ]
 
 pub returns-clause-sound : goal.returns-clause-sound
 returns-clause-sound c =
     let children = c.in_ok-children.children in
-    subst (λ may. IsNodeOf (trie_after c) (record c.args.node { children = children; may_give_mergeinfo = may })) (sym (may_is c))
+    subst (λ may. IsNodeOf (trie_after c) (record c.args.node { children = children; may_give_mergeinfo_below = may })) (sym (may_is c))
     (IsNodeOf-child c.args.self.now (trie_after c) c.args.node c.args.child c.args.name c.in_ok-id.id children (puts_child c) c.in_ok-children.ensures.within)
 
 pub returns-clause-exact : goal.returns-clause-exact
@@ -66,5 +66,5 @@ returns-clause-exact c =
     let node = c.args.node in
     let child = c.args.child in
     let children = c.in_ok-children.children in
-    subst (λ may. PutsNode old (trie_after c) (Some node) (c.args.name ∷ []) child (record node { children = children; may_give_mergeinfo = may })) (sym (may_is c))
+    subst (λ may. PutsNode old (trie_after c) (Some node) (c.args.name ∷ []) child (record node { children = children; may_give_mergeinfo_below = may })) (sym (may_is c))
     (PutsNode-child old (trie_after c) node child c.args.name c.in_ok-id.id children (puts_child c))
