@@ -58,8 +58,9 @@ fn may_be_in_blocks(blocks: &[Arc<Trees>], location: Location) -> Result<bool, A
 fn may_be_through(blocks: &[Arc<Trees>], found: Location) -> Result<bool, AllocError>
     requires in_order { AreBlocksFrom 0 (block_trees blocks.now) }
     requires within { found.tick ≤ length (block_records (block_trees blocks.now)) }
-    ensures { IfOk result (λ may. IsFalse may → (name : _) (rest : _) → mergeinfo_of (resolved 0 (looked_through same_name 0
-        (block_records (block_trees blocks.now)) (as_at (Some found) (name ∷ rest)))) ≡ None) }
+    ensures { IfOk result (λ may. IsFalse may → (name : _) (rest : _)
+        → mergeinfo_of (resolved 0 (looked_through same_name 0 (block_records (block_trees blocks.now))
+        (as_at (Some found) (name ∷ rest)))) ≡ None) }
 {
     let mut found = found;
     let mut left = blocks;
