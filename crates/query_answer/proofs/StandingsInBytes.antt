@@ -178,27 +178,36 @@ module _ (dump : DumpValue) (is_dump : IsDump dump) where
         cc;
   }
 
-  -- ---- mergeinfo at a path or below it
+  -- ---- mergeinfo below a path
 
   -- where the numbers have none the bytes have none
-  pub HasNoMergeinfoBelow-none : (path : List NameId) (rev : ℕ) → ((rest : List NameId) → own_mergeinfo_at same_name (revision_in dump rev) (path ++ rest) ≡ None)
+  pub HasNoMergeinfoBelow-none : (path : List NameId) (rev : ℕ) → ((name : NameId) (rest : List NameId) → own_mergeinfo_at same_name (revision_in dump rev) (path ++ name ∷ rest) ≡ None)
       → HasNoMergeinfoBelow dump path rev
-  HasNoMergeinfoBelow-none path rev none = λ rest. by rest (entry_at bytes_eq (tree_of (trees_in_bytes dump) rev) (components_of dump.names path ++ rest)) refl
+  HasNoMergeinfoBelow-none path rev none = λ part more.
+      by part more (entry_at bytes_eq (tree_of (trees_in_bytes dump) rev) (components_of dump.names path ++ part ∷ more)) refl
     where
-      by : (rest : List (List ℕ)) (entry : Option (Entry (List ℕ) (List ℕ))) → entry_at bytes_eq (tree_of (trees_in_bytes dump) rev) (components_of dump.names path ++ rest) ≡ entry
-          → own_mergeinfo bytes_eq (tree_of (trees_in_bytes dump) rev) (components_of dump.names path ++ rest) ≡ None
-      by rest None at = ap (option_and_then (λ (each : Entry (List ℕ) (List ℕ)). each.mergeinfo)) at
-      by rest (Some entry) at =
+      at_numbers : (part : List ℕ) (more : List (List ℕ)) (numbers : List NameId) → map (name dump is_dump) numbers ≡ part ∷ more
+          → own_mergeinfo_at same_name (revision_in dump rev) (path ++ numbers) ≡ None
+      at_numbers part more [] is = cc
+      at_numbers part more (number ∷ numbers) is = none number numbers
+
+      by : (part : List ℕ) (more : List (List ℕ)) (entry : Option (Entry (List ℕ) (List ℕ)))
+          → entry_at bytes_eq (tree_of (trees_in_bytes dump) rev) (components_of dump.names path ++ part ∷ more) ≡ entry
+          → own_mergeinfo bytes_eq (tree_of (trees_in_bytes dump) rev) (components_of dump.names path ++ part ∷ more) ≡ None
+      by part more None at = ap (option_and_then (λ (each : Entry (List ℕ) (List ℕ)). each.mergeinfo)) at
+      by part more (Some entry) at =
+          let rest = part ∷ more in
           let (whole, spells) = number_path rev (components_of dump.names path ++ rest) entry at in
-          let (more, _, whole_is) = split_renamed (name dump is_dump) same_number path whole rest spells in
+          let (numbers, numbers_are, whole_is) = split_renamed (name dump is_dump) same_number path whole rest spells in
           ap (λ tree. own_mergeinfo bytes_eq tree (components_of dump.names path ++ rest)) (tree-renamed rev)
           ∙ ap (own_mergeinfo bytes_eq (rename_tree (name dump is_dump) (text dump is_dump) (tree_by_number rev))) (sym spells ∙ ap (map (name dump is_dump)) whole_is)
-          ∙ own_mergeinfo-rename (name dump is_dump) (text dump is_dump) same_name bytes_eq (alike dump is_dump) (tree_by_number rev) (path ++ more)
-          ∙ ap (option_map (text dump is_dump)) (sym (own_mergeinfo-standing same_name (tree_by_number rev) (path ++ more)) ∙ none more)
+          ∙ own_mergeinfo-rename (name dump is_dump) (text dump is_dump) same_name bytes_eq (alike dump is_dump) (tree_by_number rev) (path ++ numbers)
+          ∙ ap (option_map (text dump is_dump)) (sym (own_mergeinfo-standing same_name (tree_by_number rev) (path ++ numbers)) ∙ at_numbers part more numbers numbers_are)
 
   -- and there is none past the youngest revision
   pub HasNoMergeinfoBelow-past : (path : List NameId) (rev : ℕ) → length dump.counts ≤ rev → HasNoMergeinfoBelow dump path rev
-  HasNoMergeinfoBelow-past path rev past = λ rest.
+  HasNoMergeinfoBelow-past path rev past = λ part more.
+      let rest = part ∷ more in
       ap (λ tree. own_mergeinfo bytes_eq tree (components_of dump.names path ++ rest))
       (tree_of_past (trees_in_bytes dump) rev (omega (arith, past, length-trees_in_bytes dump is_dump)))
       ∙ ap (option_and_then (λ (each : Entry (List ℕ) (List ℕ)). each.mergeinfo)) (entry_at-nil bytes_eq (components_of dump.names path ++ rest))

@@ -17,11 +17,11 @@ use Rattle.query_answer.specs.Repo.{trees_in_bytes}
 abbrev pub IsNowhere : DumpValue → List (List ℕ) → Type 0
 IsNowhere dump parts = (rev : ℕ) → is_there bytes_eq (tree_of (trees_in_bytes dump) rev) parts ≡ false
 
--- neither the path of the dump nor a path below it has mergeinfo in the revision
+-- no path below the path of the dump has mergeinfo in the revision
 abbrev pub HasNoMergeinfoBelow : DumpValue → List NameId → ℕ → Type 0
 HasNoMergeinfoBelow dump path rev =
-    (rest : List (List ℕ))
-    → own_mergeinfo bytes_eq (tree_of (trees_in_bytes dump) rev) (components_of dump.names path ++ rest) ≡ None
+    (name : List ℕ) (rest : List (List ℕ))
+    → own_mergeinfo bytes_eq (tree_of (trees_in_bytes dump) rev) (components_of dump.names path ++ name ∷ rest) ≡ None
 
 -- what is kept of it, with the text of the mergeinfo
 abbrev pub standing_in_bytes : DumpValue → Entry → Standing (List ℕ)

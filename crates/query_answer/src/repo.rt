@@ -207,14 +207,14 @@ impl Repo {
         self.map.children(self.ends.at(rev), path)
     }
 
-    /// Whether the path or a path below it may have mergeinfo in a revision. Past the youngest one none has.
-    pub fn may_have_mergeinfo(&self, path: &Path, rev: u32) -> Result<bool, AllocError>
+    /// Whether a path below this one may have mergeinfo in a revision. Past the youngest one none has.
+    pub fn may_have_mergeinfo_below(&self, path: &Path, rev: u32) -> Result<bool, AllocError>
         ensures { IfOk result (λ may. IsFalse may → HasNoMergeinfoBelow self.now path.now rev) }
     {
         if rev as usize >= self.dump.counts().len() {
             return Ok(false);
         }
-        self.map.may_have_mergeinfo(self.ends.at(rev), path)
+        self.map.may_have_mergeinfo_below(self.ends.at(rev), path)
     }
 
     /// The text of the mergeinfo that a path has itself in a revision.
