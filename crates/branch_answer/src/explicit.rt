@@ -64,7 +64,7 @@ fn has_own_mergeinfo(repo: &Repo, path: &Path, rev: u32) -> Result<bool, AllocEr
     }
 }
 
-/// What stands directly below these paths, as far as there may be mergeinfo at or below it.
+/// What stands directly below these paths, as far as there may be mergeinfo below them.
 fn open_below(alloc: Global, repo: &Repo, level: &[Path], rev: u32) -> Result<Vec<Path>, AllocError>
     ensures { IfOk result (λ next. AreOpenBelow repo.now rev level.now next.items) }
 {
@@ -76,20 +76,20 @@ fn open_below(alloc: Global, repo: &Repo, level: &[Path], rev: u32) -> Result<Ve
     Ok(next)
 }
 
-/// What stands directly below a path, as far as there may be mergeinfo at or below it.
+/// What stands directly below a path, if there may be mergeinfo below the path.
 fn open_children(alloc: Global, repo: &Repo, path: &Path, rev: u32) -> Result<Vec<Path>, AllocError>
-    ensures { IfOk result (λ marked. AreOpen repo.now rev path.now marked.items) }
+    ensures { IfOk result (λ below. AreOpen repo.now rev path.now below.items) }
 {
+    if !repo.may_have_mergeinfo_below(path, rev)? {
+        return Ok(Vec::new(alloc));
+    }
     let list = repo.children(path, rev)?;
     let children = list.as_slice();
-    let mut marked = Vec::new(alloc);
+    let mut below = Vec::new(alloc);
     for child in children {
-        let below = path.join([child.name].as_slice())?;
-        if repo.may_have_mergeinfo(&below, rev)? {
-            marked.push(below)?;
-        }
+        below.push(path.join([child.name].as_slice())?)?;
     }
-    Ok(marked)
+    Ok(below)
 }
 
 /// These paths in the order of the bytes of their texts, each once.
