@@ -1,7 +1,9 @@
 -- What is kept of records, as records are added.
-use Rattle.path_index.proofs.Common.{◌≡◌, ◌≢◌, ℕ, ◌+◌, ◌-◌, ◌<◌, ◌≤◌, Bool, true, false, leb, ltb, List, [], ◌∷◌, ◌++◌, length, get_or, slice_get, map, drop, Some, inl, inr, refl, sym, ap, subst, ◌∙◌, arith, length-append, append-nil, IsNonDecreasing, IsNonDecreasingBy, IsPartitionPoint, cases_lt, ltb-true, ltb-false, get_or_append_left, get_or-append-add, length-map, get_or-map, map-append, All-append, All-map, All-weaker, All-nil, All-cons, none-some, same_Some, slice_get_within, same_name, NameId, Act, NodeRecord, record_view, AreRising, IsCopy, SetsOrigin, SetsPath, moved_by, AreCopies, AreKept, revs_of, CopiesFrom, IsCopied, Copied, slice_get-first, slice_get-second, slice_get-before, slice_get-after, slice_get-push, AllPairs-append}
+use Rattle.path_index.proofs.Common.{◌≡◌, ◌≢◌, ℕ, ◌+◌, ◌-◌, ◌<◌, ◌≤◌, Bool, true, false, leb, ltb, List, [], ◌∷◌, ◌++◌, length, get_or, slice_get, map, drop, Some, inl, inr, refl, sym, ap, ap₂, subst, ◌∙◌, arith, length-append, append-nil, IsNonDecreasing, IsNonDecreasingBy, IsPartitionPoint, cases_lt, ltb-true, ltb-false, get_or_append_left, get_or-append-add, length-map, get_or-map, map-append, All-append, All-map, All-weaker, All-nil, All-cons, none-some, same_Some, slice_get_within, same_name, NameId, Act, NodeRecord, record_view, AreRising, IsCopy, SetsOrigin, SetsPath, moved_by, AreCopies, AreKept, revs_of, CopiesFrom, IsCopied, Copied, slice_get-first, slice_get-second, slice_get-before, slice_get-after, slice_get-push, AllPairs-append}
 use Rattle.svn_dump.specs.declared.record.Act.TheVariants as act
 use Rattle.svn_dump.specs.declared.record.Mi.{Mi}
+use Rattle.path_index.specs.Records.{copied_by}
+use Rattle.path_index.proofs.CopiesInOrder.{copied_from-both}
 use Rattle.path_index.proofs.Rising.{IsNonDecreasingBy-AllPairs}
 use Rattle.path_index.proofs.RecordEffects.{SetsOrigin-Copy, below_from_copy}
 
@@ -53,6 +55,7 @@ module _ {records more : List NodeRecord} {copies others : List Copied} (one : A
         let so = one.sound i d low in
         let early = slice_get_within records (get_or copies i d).index so.each so.at in
         omega (arith, early, moved_at j d (omega (arith, long))));
+    exact = ap₂ (λ front back. front ++ map (moved_by (length records)) back) one.exact other.exact ∙ sym (copied_from-both records more);
   }
 
 -- ---- one record more
@@ -61,11 +64,25 @@ module _ (each : NodeRecord) where
   only : (index : ℕ) (other : NodeRecord) → slice_get (each ∷ []) index ≡ Some other → (index ≡ 0) × (other ≡ each)
   only index other at = elim (slice_get-push [] each index other at) [ inl none ↦ absurd (none-some other none) | inr is ↦ is ]
 
+  exact-one : (copied : Copied) (a : Act) → copied.index ≡ 0 → each.path ≡ copied.to → CopiesFrom copied.from copied.from_rev a → copied ∷ [] ≡ copied_by 0 each.path a
+  exact-one copied (act.Copy replace source source_rev mi) first to (from, from_rev) =
+      λ i. record { index = first i; to = sym to i; from = sym from i; from_rev = sym from_rev i } ∷ []
+  exact-one copied act.Delete first to so = absurd so
+  exact-one copied (act.Change mi) first to so = absurd so
+  exact-one copied (act.Add replace kind mi) first to so = absurd so
+
+  exact-none : (a : Act) → (IsCopy a → ⊥) → [] ≡ copied_by 0 each.path a
+  exact-none (act.Copy replace source source_rev mi) no_copy = absurd (no_copy tt)
+  exact-none act.Delete no_copy = refl
+  exact-none (act.Change mi) no_copy = refl
+  exact-none (act.Add replace kind mi) no_copy = refl
+
   AreCopies-one : (copied : Copied) → copied.index ≡ 0 → each.path ≡ copied.to → CopiesFrom copied.from copied.from_rev each.act → AreCopies (each ∷ []) (copied ∷ [])
   AreCopies-one copied first to from = record {
     sound = All-cons (IsCopied (each ∷ [])) copied [] (record { each = each; at = ap (slice_get (each ∷ [])) first; to = to; from = from }) (All-nil (IsCopied (each ∷ [])));
     complete = λ index other at copy. record { number = 0; within = omega arith; is = λ d. first ∙ sym (only index other at).0 };
     rising = λ i j d before within. absurd (omega arith);
+    exact = exact-one copied each.act first to from ∙ sym (append-nil (copied_by 0 each.path each.act));
   }
 
   AreCopies-none : (IsCopy each.act → ⊥) → AreCopies (each ∷ []) []
@@ -73,6 +90,7 @@ module _ (each : NodeRecord) where
     sound = All-nil (IsCopied (each ∷ []));
     complete = λ index other at copy. absurd (no_copy (rw (only index other at).1 at copy));
     rising = λ i j d before within. absurd (omega arith);
+    exact = exact-none each.act no_copy ∙ sym (append-nil (copied_by 0 each.path each.act));
   }
 
   pub AreCopies_push : {records : List NodeRecord} {copies : List Copied} (copied : Copied) → AreCopies records copies → length records ≡ copied.index → each.path ≡ copied.to → CopiesFrom copied.from copied.from_rev each.act

@@ -1,6 +1,7 @@
 mod Common
 mod CameFromItself
 mod ChildrenDistinct
+mod CopiesInOrder
 mod DownFrom
 mod EntriesOfPaths
 mod HistoryTo

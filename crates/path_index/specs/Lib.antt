@@ -1,3 +1,4 @@
+pub mod Copies
 pub mod History
 pub mod Index
 pub mod Joining

@@ -31,12 +31,23 @@ pub record HasCopied (copies : List Copied) (index : ℕ) : Type 0 where
   pub within : number < length copies
   pub is : (d : Copied) → (slice_index_or copies number d).index ≡ index
 
+abbrev pub copied_by : ℕ → List NameId → Act → List Copied
+copied_by index to (act.Copy replace from from_rev mi) =
+    record { index = index; to = to; from = from; from_rev = from_rev } ∷ []
+copied_by index to _ = []
+
+-- the copies among records, of which the first has this index
+abbrev pub copied_from : ℕ → List NodeRecord → List Copied
+copied_from index [] = []
+copied_from index (each ∷ records) = copied_by index each.path each.act ++ copied_from (index + 1) records
+
 -- the copies among the records, in their order
 pub record AreCopies (records : List NodeRecord) (copies : List Copied) : Type 0 where
   pub sound : All (IsCopied records) copies
   pub complete : (index : ℕ) (each : NodeRecord) → slice_get records index ≡ Some each → IsCopy each.act
       → HasCopied copies index
   pub rising : AllPairs (λ one later. one.index < later.index) copies
+  pub exact : copies ≡ copied_from 0 records
 
 abbrev pub revs_of : List NodeRecord → List ℕ
 revs_of records = map (λ each. each.rev) records

@@ -6,8 +6,8 @@ use svn_path::Path;
 
 /// The index of a record that copies, where it copies to, and from where.
 #[derive(Drop)]
-pub(crate) struct Copied {
-    pub index: u32,
+pub struct Copied {
+    pub(crate) index: u32,
     pub to: Path,
     pub from: Path,
     pub from_rev: u32,

@@ -1,5 +1,6 @@
 //! The index of a history.
-ghost use Rattle.std.specs.Prelude.{◌≡◌, ◌+◌, ◌^◌, ◌<◌, ◌++◌, None, IfOk, OnOk, length};
+ghost use Rattle.std.specs.Prelude.{◌≡◌, ◌+◌, ◌^◌, ◌<◌, ◌++◌, None, IfOk, OnOk, length, map};
+ghost use Rattle.path_index.specs.Copies.{copies_between, copy_view};
 ghost use Rattle.path_index.specs.History.{AreRising};
 ghost use Rattle.path_index.specs.Index.{AreHitsInRange, AreHitsOf, AreMaximal, AreSegmentsOf, IsThere, IsWhole, gap_between, location_in};
 ghost use Rattle.path_index.specs.Joining.{records_up_to_end};
@@ -9,6 +10,7 @@ ghost use Rattle.path_index.specs.Range.{is_in_range};
 ghost use Rattle.path_index.specs.RecordEffect.{origin_view};
 ghost use Rattle.path_index.specs.Span.{IsSpan};
 
+use crate::copied::Copied;
 use crate::last_set::last_set;
 use crate::records::Records;
 use crate::records_by_path::RecordsByPath;
@@ -166,6 +168,14 @@ impl Index {
         ensures kept { KeepsPath self.now.records path.now result rev }
     {
         last_set(&self.records, &self.by_path, path, rev)
+    }
+
+    /// The copies of the revisions after `above` and up to `up_to`, in the order of their records.
+    pub fn copies_in(&self, above: u32, up_to: u32) -> &[Copied]
+        requires { IsWhole self.now }
+        ensures { map copy_view result.now ≡ copies_between above up_to self.now.records }
+    {
+        self.records.copies_in(above, up_to)
     }
 
     /// Where the path of a revision came from.

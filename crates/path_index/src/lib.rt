@@ -20,5 +20,6 @@ mod segment;
 mod span;
 mod sparse_numbers;
 
+pub use copied::Copied;
 pub use index::Index;
 pub use segment::{Hit, RevisionRange, Segment, revisions_of};

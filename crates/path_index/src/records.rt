@@ -2,6 +2,7 @@
 ghost use Rattle.std.specs.Prelude.{◌≡◌, ◌+◌, ◌^◌, ◌<◌, ◌++◌, [], All, Some, length, map, option_copied, slice_get};
 ghost use Rattle.std.specs.Prelude.{IfOk, OnOk};
 ghost use Rattle.svn_dump.specs.declared.record.NodeRecord.{NodeRecord as Record};
+ghost use Rattle.path_index.specs.Copies.{copies_between, copies_up_to, copy_view};
 ghost use Rattle.path_index.specs.History.{AreRising};
 ghost use Rattle.path_index.specs.Records.{moved_by, AddsCopy, IsCopyAt, IsCountUpTo, IsOriginAt, SetsPathAt};
 
@@ -177,6 +178,28 @@ impl Records {
         ensures { IsCountUpTo rev self.now result }
     {
         self.revs.partition_point(|each| *each <= rev)
+    }
+
+    /// How many copies are of revisions up to this one.
+    fn count_copies_up_to(&self, rev: u32) -> usize
+        requires { AreRising self.now }
+        ensures { result ≡ length (copies_up_to rev self.now) }
+    {
+        let count = self.count_up_to(rev);
+        self.copies
+            .partition_point(|each| (each.index as usize) < count)
+    }
+
+    /// The copies of the revisions after `above` and up to `up_to`, in the order of their records.
+    pub(crate) fn copies_in(&self, above: u32, up_to: u32) -> &[Copied]
+        requires { AreRising self.now }
+        ensures { map copy_view result.now ≡ copies_between above up_to self.now }
+    {
+        let end = self.count_copies_up_to(up_to);
+        let first = self.count_copies_up_to(above).min(end);
+        let (upper, _) = self.copies.split_at(end);
+        let (_, between) = upper.split_at(first);
+        between
     }
 
     /// The revision of the record of this index.
