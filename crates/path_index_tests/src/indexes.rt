@@ -526,3 +526,22 @@ fn neighbours_are_joined(rt: HostRuntime) -> Result<(), Fail> {
     assert_eq!(rt; joined?, (Some(2), None));
     Ok(())
 }
+
+// The source revisions of the copies after one revision and up to another, if there are two.
+fn two_sources(index: &Index, above: u32, up_to: u32) -> Option<(u32, u32)>
+    requires { IsWhole index.now }
+{
+    match index.copies_in(above, up_to) {
+        [one, later] => Some((one.from_rev, later.from_rev)),
+        _ => None,
+    }
+}
+
+#[test]
+fn copies_are_found_by_their_revisions(rt: HostRuntime) -> Result<(), Fail> {
+    let index = index_of_replacements(rt.alloc(), Making::Whole)?;
+    let found = [(2, 4), (3, 4), (2, 3)].map(|(above, up_to)| two_sources(&index, above, up_to));
+    drop(index);
+    assert_eq!(rt; found, [Some((1, 3)), None, None]);
+    Ok(())
+}
