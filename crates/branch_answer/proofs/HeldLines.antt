@@ -17,6 +17,7 @@ use Rattle.svn_path.specs.declared.names.NameId.{NameId}
 use Rattle.merge_info.specs.CanonicalValue.{value_of}
 use Rattle.merge_info.specs.Value.{Entry, MergeInfoValue}
 use Rattle.range_list.specs.Rangelist.{inheritability_of}
+use Rattle.path_index.proofs.DownFrom.{down_from-append, down_from_more}
 use Rattle.path_index.specs.Operative.{down_from, is_operative}
 use Rattle.query_answer.proofs.InBytes.{length-trees_in_bytes}
 use Rattle.query_answer.specs.Answer.{TreesOfBytes}
@@ -32,7 +33,7 @@ unfoldable use Rattle.branch_answer.specs.KeptHoldings.{held_from}
 use Rattle.branch_answer.specs.QuestionAnswer.{lines_text}
 use Rattle.branch_answer.specs.declared.holdings.Holdings.{Holdings}
 use Rattle.branch_answer.proofs.HeldEntries.{is_operative-nowhere}
-use Rattle.branch_answer.proofs.Lists.{down_from-add, down_from_more, filter_map_down-none}
+use Rattle.branch_answer.proofs.Lists.{filter_map_down-none}
 
 -- ---- nothing is held past the youngest revision
 
@@ -125,7 +126,7 @@ module _ (dump : DumpValue) (kept : IsDump dump) (at : PathRev) (value : MergeIn
       let count = count_in dump range in
       let past = asked - count in
       let rest = down_from count (range.1 - past) in
-      ap (filter_map found) (down_from-add past count asked range.1 (omega arith))
+      ap (filter_map found) (down_from-append past count asked range.1 (omega arith))
       ∙ filter_map-append found (down_from past range.1) rest
       ∙ ap (λ front. front ++ filter_map found rest)
       (filter_map_down-none found past range.1 (λ each to from. ap (option_map (λ how. (each, how))) (holding_in-past each (omega (arith, to, from)))))

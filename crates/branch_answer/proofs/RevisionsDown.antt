@@ -1,29 +1,8 @@
 -- The revisions that pass a test, from a lowest one up to below a bound.
-use Rattle.std.proofs.Common.{◌≡◌, ◌∙◌, ℕ, zero, suc, ◌+◌, ◌-◌, ◌<◌, ◌≤◌, ◌==◌, pred, Bool, true, false, not, List, [], ◌∷◌, ◌++◌, ap, ap₂, arith, filter, length, refl}
+use Rattle.std.proofs.Common.{◌≡◌, ◌∙◌, ℕ, ◌-◌, ◌<◌, ◌≤◌, ◌==◌, pred, Bool, true, false, not, List, [], ◌∷◌, ◌++◌, ap, arith, filter, length, refl}
 use Rattle.std.proofs.lemmas.List.Elements.{filter-append}
+use Rattle.path_index.proofs.DownFrom.{down_from-append, filter_down-none, filter_down-same}
 use Rattle.path_index.specs.Operative.{down_from}
-
--- so many numbers, and then more
-down_from-append : (n m k top : ℕ) → k ≡ n + m → down_from k top ≡ down_from n top ++ down_from m (top - n)
-down_from-append zero m k top is = let count : k ≡ m = omega (arith, is) in let same : top ≡ top - 0 = omega arith in ap₂ down_from count same
-down_from-append (suc n) m zero top is = absurd (omega (arith, is))
-down_from-append (suc n) m (suc k) top is =
-    let same : pred top - n ≡ top - suc n = omega arith in
-    ap (λ rest. top ∷ rest) (down_from-append n m k (pred top) (omega (arith, is)) ∙ ap (λ last. down_from n (pred top) ++ down_from m last) same)
-
--- two tests that agree on each of the numbers pass the same ones
-filter_down-same : (p q : ℕ → Bool) (n top : ℕ) → n ≤ top + 1 → ((k : ℕ) → k ≤ top → top < k + n → p k ≡ q k)
-    → filter p (down_from n top) ≡ filter q (down_from n top)
-filter_down-same p q zero top few agree = refl
-filter_down-same p q (suc zero) top few agree = rw (agree top (omega arith) (omega arith)) refl
-filter_down-same p q (suc (suc n)) zero few agree = absurd (omega arith)
-filter_down-same p q (suc (suc n)) (suc top) few agree =
-    let rest = filter_down-same p q (suc n) top (omega arith) (λ k up within. agree k (omega arith) (omega arith)) in
-    rw (agree (suc top) (omega arith) (omega arith), rest) refl
-
-nothing_passes : (n top : ℕ) → filter (λ k. false) (down_from n top) ≡ []
-nothing_passes zero top = refl
-nothing_passes (suc n) top = nothing_passes n (pred top)
 
 -- a single number
 pub is_empty-one : (p : ℕ → Bool) (n top : ℕ) → n ≡ 1 → (length (filter p (down_from n top)) == 0) ≡ not (p top)
@@ -40,8 +19,7 @@ module _ (p : ℕ → Bool) where
 
   pub passing_below-none : (lo bound : ℕ) → ((rev : ℕ) → lo ≤ rev → rev < bound → p rev ≡ false) → passing_below lo bound ≡ []
   passing_below-none lo bound fails =
-      filter_down-same p (λ k. false) (bound - lo) (pred bound) (omega arith) (λ k up within. fails k (omega (arith, up, within)) (omega (arith, up, within)))
-      ∙ nothing_passes (bound - lo) (pred bound)
+      filter_down-none p (bound - lo) (pred bound) (omega arith) (λ k up within. fails k (omega (arith, up, within)) (omega (arith, up, within)))
 
   pub passing_below-split : (lo mid bound : ℕ) → lo ≤ mid → mid ≤ bound → passing_below lo bound ≡ passing_below mid bound ++ passing_below lo mid
   passing_below-split lo mid bound low high =

@@ -2,7 +2,6 @@ mod Common
 mod CameFromItself
 mod ChildrenDistinct
 mod CopiesInOrder
-mod DownFrom
 mod EntriesOfPaths
 mod HistoryTo
 mod HitsOfSegments
@@ -25,5 +24,6 @@ mod SegmentsUpTo
 mod Spans
 mod Steps
 mod Traces
+pub mod DownFrom
 pub mod Histories
 pub mod Renaming

@@ -4,14 +4,7 @@ use Rattle.std.proofs.Math.Bool.{or-false}
 use Rattle.path_index.proofs.HistoryTo.{records_in-history_to}
 use Rattle.path_index.proofs.CameFromItself.{came-from_location, location-from_came}
 use Rattle.path_index.proofs.Segments.{AreSegments-segments_of}
-use Rattle.path_index.proofs.DownFrom.{filter_down-same}
-
--- one number more, at the end
-down_from_more : (n top : ℕ) → down_from (suc n) top ≡ down_from n top ++ (top - n) ∷ []
-down_from_more zero top = let e : top ≡ top - 0 = omega arith in ap (λ k. k ∷ []) e
-down_from_more (suc n) top =
-    let e : pred top - n ≡ top - suc n = omega arith in
-    ap (λ rest. top ∷ rest) (down_from_more n (pred top) ∙ ap (λ k. down_from n (pred top) ++ k ∷ []) e)
+use Rattle.path_index.proofs.DownFrom.{down_from_more, filter_down-same}
 
 there_by_origin : (later there named came : Bool) → later ≡ true → there ≡ true → came ≡ false → (later && there && (named || not came)) ≡ true
 there_by_origin later there named came a b c = (λ i. a i && b i && (named || not (c i))) ∙ or_right named true refl

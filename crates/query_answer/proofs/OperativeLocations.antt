@@ -1,18 +1,11 @@
 -- The locations of a path in its operative revisions, by its segments and their operative revisions.
 use Rattle.query_answer.proofs.Common.{◌≡◌, ℕ, zero, suc, pred, ◌+◌, ◌-◌, ◌<◌, ◌≤◌, Bool, true, false, if◌then◌else◌, List, [], ◌∷◌, ◌++◌, Option, Some, None, All, drop, filter, get_or, length, map, reverse, option_map, slice_get, take, refl, sym, ap, ap₂, ◌∙◌, append-nil, arith, filter_map, option_and_then, cons_option, range_with_len, map-id, reverse-append, take_more, All-append, All-cons, All-nil, filter_map-append, History, rename_history, location, Tree, rename_tree, down_from, hit_at, is_operative, operative_from, operative_in, operative_of, AreSegments, IsSegment, Segment, Hit, is_operative-rename, found_in, operative_location}
 use Rattle.std.proofs.lemmas.List.FromFn.{map-range_with_len_more}
+use Rattle.path_index.proofs.DownFrom.{down_from-append}
 use Rattle.svn_dump.proofs.Renaming.Locations.{location-rename}
 use Rattle.svn_dump.proofs.Renaming.Paths.{KeepsSame}
 
--- ---- numbers downwards
-
--- n numbers and m more
-down_from-append : (n m k top : ℕ) → k ≡ n + m → down_from k top ≡ down_from n top ++ down_from m (top - n)
-down_from-append zero m k top is = let e : k ≡ m = omega (arith, is) in let f : top ≡ top - 0 = omega arith in ap₂ down_from e f
-down_from-append (suc n) m zero top is = absurd (omega (arith, is))
-down_from-append (suc n) m (suc k) top is =
-    let e : pred top - n ≡ top - suc n = omega arith in
-    ap (λ rest. top ∷ rest) (down_from-append n m k (pred top) (omega (arith, is)) ∙ ap (λ j. down_from n (pred top) ++ down_from m j) e)
+-- ---- lists the other way round
 
 reverse-cons : {A : Type 0} (x : A) (xs : List A) → reverse (x ∷ xs) ≡ reverse xs ++ x ∷ []
 reverse-cons x xs = reverse-append (x ∷ []) xs
