@@ -1,5 +1,6 @@
 mod Common
 pub mod AnswerTexts
+mod CopiesOfDump
 mod EffectiveValues
 mod HeldRevisions
 pub mod InBytes

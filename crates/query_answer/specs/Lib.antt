@@ -1,4 +1,5 @@
 pub mod Answer
+pub mod CopiesOf
 pub mod Effective
 pub mod Held
 pub mod HeldValue

@@ -27,7 +27,7 @@ mod unanswered;
 mod verbs;
 
 pub use answers::{Answer, Effective, MergedRevision, append_head};
-pub use path_index::{RevisionRange, Segment};
+pub use path_index::{Copied, RevisionRange, Segment};
 pub use peg::Peg;
 pub use printed_mergeinfo::PrintedMergeinfo;
 pub use query::Query;

@@ -6,9 +6,11 @@ ghost use Rattle.svn_dump.specs.Dump.{IsDump, IsRecordOf, history_in_bytes, hist
 ghost use Rattle.svn_dump.specs.Fault.{first_fault};
 ghost use Rattle.block_map.specs.Ends.{ends_of};
 ghost use Rattle.block_map.specs.Map.{IsMapOf};
+ghost use Rattle.path_index.specs.Copies.{copies_between, copy_view};
 ghost use Rattle.path_index.specs.Index.{location_in};
 ghost use Rattle.path_index.specs.LastSet.{IsLastSet};
 ghost use Rattle.query_answer.specs.Answer.{segments_in_bytes, HasPathOf};
+ghost use Rattle.query_answer.specs.CopiesOf.{IsCopyOf};
 ghost use Rattle.query_answer.specs.LocationsInBytes.{location_of_path, named_in_bytes, operative_in_bytes, segments_of_path};
 ghost use Rattle.query_answer.specs.OriginsInBytes.{origin_in_bytes, origin_of_path, KeepsPathIn};
 ghost use Rattle.query_answer.specs.Repo.{index_of_dump};
@@ -19,7 +21,7 @@ use crate::status::Status;
 use crate::target::{PathRev, Target};
 use crate::unanswered::Unanswered;
 use block_map::{Child, Ends, Entry, Map, Nearest};
-use path_index::{Hit, Index, RevisionRange, Segment, revisions_of};
+use path_index::{Copied, Hit, Index, RevisionRange, Segment, revisions_of};
 use std::alloc::{AllocError, Global};
 use std::marker::Model;
 use svn_dump::{Dump, NodeRecord, Origin, ValueId};
@@ -339,6 +341,14 @@ impl Repo {
         ensures dump { IsDump self.now }
     {
         self.index.last_set(path, rev)
+    }
+
+    /// The copies of the revisions after `above` and up to `up_to`, in the order of their records.
+    pub fn copies_in(&self, above: u32, up_to: u32) -> &[Copied]
+        ensures are { map copy_view result.now ≡ copies_between above up_to self.now.records }
+        ensures of_names { All (IsCopyOf self.now.names) result.now }
+    {
+        self.index.copies_in(above, up_to)
     }
 
     /// Where the path of a revision came from.
