@@ -1,5 +1,6 @@
 -- The copies of records in the order of the records.
 use Rattle.path_index.proofs.Common.{◌≡◌, ℕ, suc, ◌+◌, ◌<◌, ◌≤◌, Bool, true, false, nat_le, nat_lt, ltb, List, [], ◌∷◌, ◌++◌, All, length, get_or, map, min, take, drop, drop-map, take-map, filter, refl, sym, ap, ap₂, subst, ◌∙◌, inl, inr, arith, append_assoc, append-nil, length-append, length-map, length-drop, length-take-le, map-append, take-append-drop, get_or-take, get_or-drop, get_or_append_left, get_or-append-add, filter-append, cases_lt, le-leb, lt-ltb, leb-true, ltb-true, ltb-false, le-ltb, All-append, All-cons, All-nil, All-weaker, IsPartitionPoint, NameId, Act, NodeRecord, AreRising, AreCopies, IsCountUpTo, Copied, moved_by}
+use Rattle.std.proofs.lemmas.List.{append_cancel_left}
 use Rattle.std.proofs.lemmas.List.Elements.{filter_map-append}
 use Rattle.std.proofs.Math.ListN.{drop_of_length-le}
 use Rattle.std.proofs.Math.Seq.{drop-append_seam, take-append_seam}
@@ -225,3 +226,15 @@ few-copies_up_to {records = records} {copies = copies} are rising rev =
       ap length (filter_map-append copy_of (filter (is_up_to rev) records) (filter (is_after rev) records)),
       length-append (copies_up_to rev records) (copies_of (filter (is_after rev) records)),
     )
+
+-- the copies of a range are those of its parts
+pub copies_between-append : (above mid up_to : ℕ) (records : List NodeRecord) → AreRising records → above ≤ mid → mid ≤ up_to
+    → copies_between above up_to records ≡ copies_between above mid records ++ copies_between mid up_to records
+copies_between-append above mid up_to records rising low high =
+    let first = copies_up_to above records in
+    let second = copies_between above mid records in
+    let third = copies_between mid up_to records in
+    append_cancel_left first (copies_between above up_to records) (second ++ third)
+    (sym (copies_up_to-between above up_to records rising (omega (arith, low, high))) ∙ copies_up_to-between mid up_to records rising high
+    ∙ ap (λ front. front ++ third) (copies_up_to-between above mid records rising low)
+    ∙ append_assoc first second third)

@@ -1,7 +1,6 @@
 mod Common
 mod CameFromItself
 mod ChildrenDistinct
-mod CopiesInOrder
 mod EntriesOfPaths
 mod HistoryTo
 mod HitsOfSegments
@@ -24,6 +23,7 @@ mod SegmentsUpTo
 mod Spans
 mod Steps
 mod Traces
+pub mod CopiesInOrder
 pub mod DownFrom
 pub mod Histories
 pub mod Renaming
