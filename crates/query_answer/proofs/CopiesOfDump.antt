@@ -34,5 +34,5 @@ module _ (dump : DumpValue) where
       subst (All IsOfNames) (sym are)
       (All-filter_map copy_of IsOfNames kept_records
       (All-weaker (IsRecordOf dump) (λ each. IfSome (copy_of each) IsOfNames) record_names kept_records (All-filter (is_between above up_to) (IsRecordOf dump) dump.records kept.records))) in
-      let both = subst IsOfNames (get_or-map copy_view copies k d (copy_view d) within) (all k (copy_view d) (omega (arith, within, length-map copies copy_view))) in
+      let both = subst IsOfNames (get_or-map copy_view copies k d) (all k (copy_view d) (omega (arith, within, length-map copies copy_view))) in
       record { to = both.0; from = both.1 }
