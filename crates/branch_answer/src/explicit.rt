@@ -1,15 +1,13 @@
 //! Paths with mergeinfo of their own.
-ghost use Rattle.std.specs.Prelude.{◌≡◌, ◌++◌, All, IfOk, OnOk, filter};
-ghost use Rattle.svn_path.specs.Path.{IsPathOf};
+ghost use Rattle.std.specs.Prelude.{◌≡◌, ◌++◌, IfOk, OnOk, filter};
 ghost use Rattle.query_answer.specs.Repo.{IsPathIn};
 ghost use Rattle.branch_answer.specs.ExplicitFound.{AreFoundIn, AreOpen, AreOpenBelow, has_own_text};
 ghost use Rattle.branch_answer.specs.KeptExplicit.{AreExplicitIn};
-ghost use Rattle.branch_answer.specs.TextOrder.{entries_by_text, paths_by_text, sorted_by_text};
 
+use crate::text_order::in_order;
 use query_answer::{PathRev, Repo};
 use std::alloc::{AllocError, Global};
-use std::collections::BTreeMap;
-use svn_path::{Names, Path};
+use svn_path::Path;
 
 /// The paths at and below a path of a revision that have mergeinfo of their own, in the order of their bytes.
 pub(crate) fn explicit_of(alloc: Global, repo: &Repo, at: &PathRev) -> Result<Vec<Path>, AllocError>
@@ -90,33 +88,4 @@ fn open_children(alloc: Global, repo: &Repo, path: &Path, rev: u32) -> Result<Ve
         below.push(path.join([child.name].as_slice())?)?;
     }
     Ok(below)
-}
-
-/// These paths in the order of the bytes of their texts, each once.
-fn in_order(alloc: Global, names: &Names, paths: Vec<Path>) -> Result<Vec<Path>, AllocError>
-    requires { All (IsPathOf names.now) paths.items }
-    ensures { IfOk result (λ sorted. paths_by_text names.now sorted.items
-        ≡ sorted_by_text (paths_by_text names.now paths.items)) }
-{
-    let sorted = by_text(alloc, names, paths)?;
-    sorted.into_values().collect(alloc)
-}
-
-/// These paths by their texts.
-fn by_text(
-    alloc: Global,
-    names: &Names,
-    paths: Vec<Path>,
-) -> Result<BTreeMap<Vec<u8>, Path>, AllocError>
-    requires { All (IsPathOf names.now) paths.items }
-    ensures { IfOk result (λ sorted. entries_by_text sorted.entries
-        ≡ sorted_by_text (paths_by_text names.now paths.items)) }
-{
-    let mut sorted = BTreeMap::new(alloc);
-    for path in paths {
-        let mut text = Vec::new(alloc);
-        path.write(names, &mut text)?;
-        sorted.insert(text, path)?;
-    }
-    Ok(sorted)
 }

@@ -23,6 +23,7 @@ mod operative;
 mod presence;
 mod question;
 mod questions;
+mod text_order;
 
 pub use answer::Answer;
 pub use question::Question;

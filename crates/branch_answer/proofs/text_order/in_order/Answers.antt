@@ -4,7 +4,7 @@ use Rattle.std.proofs.lemmas.Iterator.Consumers.{YieldsList-from_rest}
 use Rattle.std.proofs.lemmas.Result.{IfOk-weaker}
 use Rattle.std.specs.BTreeMap.{values}
 use Rattle.branch_answer.proofs.ByText.{values-by_text}
-use Rattle.branch_answer.proofs.explicit.in_order.Goals as goal
+use Rattle.branch_answer.proofs.text_order.in_order.Goals as goal
 
 pub returns : goal.returns
 returns c =

@@ -2,7 +2,7 @@ use Rattle.std.proofs.Common.{◌++◌, ◌∙◌, ap}
 use Rattle.svn_path.specs.Components.{path_text}
 use Rattle.svn_path.specs.Path.{components_of}
 use Rattle.branch_answer.proofs.ByText.{by_text-more}
-use Rattle.branch_answer.proofs.explicit.by_text.Goals as goal
+use Rattle.branch_answer.proofs.text_order.by_text.Goals as goal
 
 pub loop-path-preserved-in_ok-insert : goal.loop-path-preserved-in_ok-insert
 loop-path-preserved-in_ok-insert c =
