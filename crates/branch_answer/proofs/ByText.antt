@@ -11,6 +11,7 @@ use Rattle.std.specs.declared.cmp.Ordering.TheVariants.{Less, Equal, Greater}
 use Rattle.svn_path.specs.Components.{path_text}
 use Rattle.svn_path.specs.Path.{components_of}
 use Rattle.svn_path.specs.declared.names.NameId.{NameId}
+use Rattle.branch_answer.proofs.Membership.{All-from_map}
 use Rattle.branch_answer.proofs.SortedTexts.{All-sorted_by_text}
 use Rattle.branch_answer.specs.TextOrder.{entries_by_text, path_by_text, paths_by_text, sorted_by_text, with_text}
 
@@ -59,3 +60,10 @@ module _ (names : List (List ℕ)) where
       (subst (All Spells) (sym sorted)
       (All-sorted_by_text Spells (paths_by_text names found) (All-map Spells (path_by_text names) found (λ k d within. refl))))
       ∙ sorted
+
+  -- what holds of each path holds of each in order
+  pub All-by_text : (P : List NameId → Type 0) (found paths : List (List NameId)) → paths_by_text names paths ≡ sorted_by_text (paths_by_text names found) → All P found → All P paths
+  All-by_text P found paths sorted all =
+      All-from_map (path_by_text names) (λ each. P each.1) paths
+      (subst (All (λ each. P each.1)) (sym sorted)
+      (All-sorted_by_text (λ each. P each.1) (paths_by_text names found) (All-map (λ each. P each.1) (path_by_text names) found all)))

@@ -19,19 +19,20 @@ use Rattle.query_answer.proofs.StandingsInBytes.{IsSame-bytes_eq}
 use Rattle.query_answer.proofs.TreePaths.{IsOf-entry}
 use Rattle.query_answer.specs.Effective.{own_mergeinfo}
 use Rattle.query_answer.specs.Repo.{trees_in_bytes}
+use Rattle.branch_answer.proofs.ByText.{All-by_text}
 use Rattle.branch_answer.proofs.EachOnce.{AllStand-trees_of, StandsIn}
 use Rattle.branch_answer.proofs.ExplicitTexts.{IsExplicit, explicit_of-found}
-use Rattle.branch_answer.proofs.Membership.{All-from_map, Contains-map}
-use Rattle.branch_answer.proofs.SortedTexts.{All-sorted_by_text, map-sorted_by_text}
+use Rattle.branch_answer.proofs.Membership.{Contains-map}
+use Rattle.branch_answer.proofs.SortedTexts.{map-sorted_by_text}
 use Rattle.branch_answer.specs.ExplicitFound.{AreFoundIn, IsFoundIn}
 use Rattle.branch_answer.specs.KeptExplicit.{AreExplicitIn, HasOwnText, explicit_text, own_text}
 use Rattle.branch_answer.specs.Life.{PathOfBytes}
 use Rattle.branch_answer.specs.Listing.{TreeOfBytes}
-use Rattle.branch_answer.specs.TextOrder.{path_by_text, paths_by_text, sorted_by_text}
+use Rattle.branch_answer.specs.TextOrder.{paths_by_text, sorted_by_text}
 
 module _ (dump : DumpValue) (kept : IsDump dump) (rev : ℕ) where
   -- the paths of its trees have components alone
-  spelled : All (λ each. All IsComponent each.0) (tree_of (trees_in_bytes dump) rev)
+  pub spelled : All (λ each. All IsComponent each.0) (tree_of (trees_in_bytes dump) rev)
   spelled =
       let numbered : Tree NameId ValueId = tree_of (trees_by_number dump kept) rev in
       let same : tree_of (trees_in_bytes dump) rev ≡ rename_tree (name dump kept) (text dump kept) numbered =
@@ -73,18 +74,12 @@ module _ (dump : DumpValue) (path : List NameId) (rev : ℕ) (found : List (List
   pub AreExplicitIn-sorted : IsDump dump → (paths : List (List NameId)) → paths_by_text dump.names paths ≡ sorted_by_text (paths_by_text dump.names found)
       → AreExplicitIn dump path rev paths
   AreExplicitIn-sorted kept paths sorted = record {
-    of_names = each_has (IsPathOf dump.names) (All-weaker (IsFoundIn dump path rev) (IsPathOf dump.names) (λ one is. is.of_names) found are.sound);
-    own = each_has (HasOwnText dump rev) (All-weaker (IsFoundIn dump path rev) (HasOwnText dump rev) (λ one is. is.own) found are.sound);
+    of_names = All-by_text dump.names (IsPathOf dump.names) found paths sorted (All-weaker (IsFoundIn dump path rev) (IsPathOf dump.names) (λ one is. is.of_names) found are.sound);
+    own = All-by_text dump.names (HasOwnText dump rev) found paths sorted (All-weaker (IsFoundIn dump path rev) (HasOwnText dump rev) (λ one is. is.own) found are.sound);
     are = explicit_of-found tree parts (spelled dump kept rev) (AllStand-trees_of bytes_eq IsSame-bytes_eq (history_in_bytes dump) rev) (map (explicit_text dump rev) found) texts_are all_texts
         ∙ sym texts_sorted;
   }
     where
-      each_has : (P : List NameId → Type 0) → All P found → All P paths
-      each_has P all =
-          All-from_map (path_by_text dump.names) (λ each. P each.1) paths
-          (subst (All (λ each. P each.1)) (sym sorted)
-          (All-sorted_by_text (λ each. P each.1) (paths_by_text dump.names found) (All-map (λ each. P each.1) (path_by_text dump.names) found all)))
-
       own_of : List NameId → List ℕ
       own_of one = unwrap_or (own_text dump rev one) []
 

@@ -4,6 +4,8 @@ mod Begun
 mod ByText
 mod CameBy
 mod Children
+mod DescendantsFound
+mod DescendantsSorted
 mod EachOnce
 mod ExplicitSorted
 mod ExplicitTexts
@@ -34,6 +36,8 @@ mod OperativeFound
 mod Origins
 mod OwnValues
 mod PathsBelow
+mod PlacesInOrder
+mod PlacesTaken
 mod Refusals
 mod Revisions
 mod RevisionsDown

@@ -103,7 +103,8 @@ module _ {C D M N : Type 0} (name : C → D) (text : M → N) (sameC : C → C �
   copied-rename to true (Some rest) = ap Some (sym (map-append name to rest))
   copied-rename to false left = refl
 
-  placed-rename : (path : List C) (rev : ℕ) (to : List C) (action : Action C M)
+  -- where an action puts a path, in bytes
+  pub placed-rename : (path : List C) (rev : ℕ) (to : List C) (action : Action C M)
       → place_by sameD (map name path) rev (map name to) (rename_action name text action) ≡ option_map (map name) (place_by sameC path rev to action)
   placed-rename path rev to delete = refl
   placed-rename path rev to (change setting) = refl

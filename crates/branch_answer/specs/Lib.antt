@@ -1,10 +1,12 @@
 pub mod Ancestor
+pub mod Descendants
 pub mod Explicit
 pub mod ExplicitFound
 pub mod HeldRevisions
 pub mod Holding
 pub mod KeptAncestor
 pub mod KeptChildren
+pub mod KeptDescendants
 pub mod KeptExplicit
 pub mod KeptHolding
 pub mod KeptHoldings

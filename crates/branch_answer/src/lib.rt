@@ -12,6 +12,7 @@
 #![tactic(auto)]
 
 mod answer;
+mod descendants;
 mod explicit;
 mod held_revisions;
 mod holding;
