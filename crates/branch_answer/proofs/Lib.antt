@@ -5,6 +5,7 @@ mod ByText
 mod CameBy
 mod Children
 mod DescendantsFound
+mod DescendantsLaw
 mod DescendantsSorted
 mod EachOnce
 mod ExplicitSorted

@@ -121,6 +121,45 @@ module _ {X : Type 0} where
         | inr among ↦ found_at one one_each text y (back text y among) ∙ sym at_other
       ]
 
+  -- the text of each entry is among those in order
+  abbrev texts : List (List ℕ × X) → List (List ℕ)
+  texts entries = map (λ each. each.0) entries
+
+  texts-new : (entries : List (List ℕ × X)) (each : List ℕ × X) → Contains (texts (with_text entries each)) each.0
+  texts-new [] each = (zero, omega arith, refl)
+  texts-new (e ∷ entries) each = by (text_cmp each.0 e.0) refl (texts-new entries each)
+    where
+      by : (o : Ordering) → text_cmp each.0 e.0 ≡ o → Contains (texts (with_text entries each)) each.0
+          → Contains (texts (match_ordering o (each ∷ e ∷ entries) ((e.0, each.1) ∷ entries) (e ∷ with_text entries each))) each.0
+      by Less at rest = (zero, omega arith, refl)
+      by Equal at rest = (zero, omega arith, sym (exact_bytes each.0 e.0 at))
+      by Greater at (k, within, is) = (suc k, omega (arith, within), is)
+
+  texts-old : (entries : List (List ℕ × X)) (each : List ℕ × X) (text : List ℕ) → Contains (texts entries) text → Contains (texts (with_text entries each)) text
+  texts-old [] each text (k, within, is) = absurd (omega (arith, within))
+  texts-old (e ∷ entries) each text has = by (text_cmp each.0 e.0) has (texts-old entries each text)
+    where
+      by : (o : Ordering) → Contains (texts (e ∷ entries)) text → (Contains (texts entries) text → Contains (texts (with_text entries each)) text)
+          → Contains (texts (match_ordering o (each ∷ e ∷ entries) ((e.0, each.1) ∷ entries) (e ∷ with_text entries each))) text
+      by Less (k, within, is) rest = (suc k, omega (arith, within), is)
+      by Equal (zero, within, is) rest = (zero, omega (arith, within), is)
+      by Equal (suc k, within, is) rest = (suc k, omega (arith, within), is)
+      by Greater (zero, within, is) rest = (zero, omega arith, is)
+      by Greater (suc k, within, is) rest = let (j, inside, same) = rest (k, omega (arith, within), is) in (suc j, omega (arith, inside), same)
+
+  texts-stay : (more entries : List (List ℕ × X)) (text : List ℕ) → Contains (texts entries) text → Contains (texts (sorted_from entries more)) text
+  texts-stay [] entries text has = has
+  texts-stay (each ∷ more) entries text has = texts-stay more (with_text entries each) text (texts-old entries each text has)
+
+  texts-come : (more entries : List (List ℕ × X)) (text : List ℕ) → Contains (texts more) text → Contains (texts (sorted_from entries more)) text
+  texts-come [] entries text (k, within, is) = absurd (omega (arith, within))
+  texts-come (each ∷ more) entries text (zero, within, is) =
+      texts-stay more (with_text entries each) text (subst (Contains (texts (with_text entries each))) is (texts-new entries each))
+  texts-come (each ∷ more) entries text (suc k, within, is) = texts-come more (with_text entries each) text (k, omega (arith, within), is)
+
+  pub Contains-sorted_by_text : (entries : List (List ℕ × X)) (text : List ℕ) → Contains (map (λ each. each.0) entries) text → Contains (map (λ each. each.0) (sorted_by_text entries)) text
+  Contains-sorted_by_text entries text has = texts-come entries [] text has
+
   -- what holds of each entry holds of each in order
   module _ (P : List ℕ × X → Type 0) where
     All-with : (entries : List (List ℕ × X)) (each : List ℕ × X) → P each → All P entries → All P (with_text entries each)

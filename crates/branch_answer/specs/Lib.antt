@@ -1,5 +1,6 @@
 pub mod Ancestor
 pub mod Descendants
+pub mod DescendantsLaw
 pub mod Explicit
 pub mod ExplicitFound
 pub mod HeldRevisions
