@@ -11,6 +11,7 @@ use Rattle.query_answer.specs.Repo.{trees_in_bytes}
 use Rattle.query_answer.specs.declared.status.Status.{Status}
 use Rattle.query_answer.specs.declared.status.Status.TheVariants as status
 use Rattle.branch_answer.specs.Ancestor.{ancestor_line, ancestor_of}
+use Rattle.branch_answer.specs.Descendants.{descendants_of}
 use Rattle.branch_answer.specs.Explicit.{explicit_lines, explicit_of}
 use Rattle.branch_answer.specs.Holding.{held_in, held_lines}
 use Rattle.branch_answer.specs.Life.{Life, lives_lines, lives_of}
@@ -68,6 +69,13 @@ abbrev pub holds_answer : HistoryOfBytes → TreesOfBytes → Peg → ℕ × ℕ
 holds_answer history trees peg range =
     if_peg_exists trees peg
     (with_effective_mergeinfo trees peg (λ value. ok_answer (held_lines (held_in history trees peg value range))))
+
+-- ---- `descendants`
+
+abbrev pub descendants_answer : TreesOfBytes → Peg → ℕ → Answer
+descendants_answer trees peg rev =
+    if_peg_exists trees peg
+    (if nat_le (length trees) rev then refused_answer status.NoSuchRevision else ok_answer (descendants_of trees peg rev))
 
 -- ---- the answer
 

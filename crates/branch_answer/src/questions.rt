@@ -8,6 +8,7 @@ ghost use Rattle.branch_answer.specs.QuestionAnswer.{kept_answer, question_answe
 ghost use Rattle.branch_answer.specs.Told.{IsUntold, TellsLines};
 
 mod ancestor;
+mod descendants;
 mod entry;
 mod explicit;
 mod holds;
