@@ -2,6 +2,7 @@
 ghost use Rattle.std.specs.Prelude.{◌≡◌, [], IfErr, IfOk, OnOk};
 ghost use Rattle.query_answer.specs.Repo.{trees_in_bytes};
 ghost use Rattle.query_answer.specs.Worker.{IsSeenOf};
+ghost use Rattle.branch_answer.specs.DescendantsLaw.{HaveDescendants};
 ghost use Rattle.branch_answer.specs.LivesLaw.{HaveLives};
 ghost use Rattle.branch_answer.specs.Question.{question_view};
 ghost use Rattle.branch_answer.specs.QuestionAnswer.{kept_answer, question_answer_in};
@@ -37,6 +38,8 @@ pub fn answer_question<'r>(
         (λ answer. answer ≡ kept_answer (question_answer_in repo.now (question_view question.now))) }
     // The lives of each path share no revision, and are all in which it is there.
     ensures lives { HaveLives (trees_in_bytes repo.now) }
+    // The descendants of a peg are the paths that were located at its place.
+    ensures descendants { HaveDescendants (trees_in_bytes repo.now) }
 {
     let mut text = Vec::new(alloc);
     match append_lines(alloc, repo, question, memo, seen, &mut text) {

@@ -1,3 +1,4 @@
+use Rattle.branch_answer.proofs.DescendantsLaw.{HaveDescendants-dump}
 use Rattle.branch_answer.proofs.LivesLaw.{HaveLives-dump}
 use Rattle.branch_answer.proofs.questions.answer_question.Goals as goal
 
@@ -9,3 +10,12 @@ returns-in-Err-Refused-clause-lives c = HaveLives-dump c.args.repo.now
 
 pub returns-clause-lives : goal.returns-clause-lives
 returns-clause-lives c = HaveLives-dump c.args.repo.now
+
+pub returns-in-Ok-clause-descendants : goal.returns-in-Ok-clause-descendants
+returns-in-Ok-clause-descendants c = HaveDescendants-dump c.args.repo.now
+
+pub returns-in-Err-Refused-clause-descendants : goal.returns-in-Err-Refused-clause-descendants
+returns-in-Err-Refused-clause-descendants c = HaveDescendants-dump c.args.repo.now
+
+pub returns-clause-descendants : goal.returns-clause-descendants
+returns-clause-descendants c = HaveDescendants-dump c.args.repo.now
