@@ -1,5 +1,5 @@
 -- The operative revisions of a path's segments, by the records that name the path.
-use Rattle.path_index.proofs.Common.{◌≡◌, ℕ, zero, suc, pred, ◌+◌, ◌-◌, ◌<◌, ◌≤◌, nat_lt, Bool, true, false, not, ◌&&◌, ◌||◌, List, [], ◌∷◌, ◌++◌, Option, None, Some, map, filter, refl, sym, ap, ◌∙◌, arith, false_from_ne_true, lt-ltb, or_right, filter-append, same_name, NameId, IsSame, IsSame-same_name, History, origin_of, location, Tree, is_there, tree_of, NodeRecord, ValueId, location_is_there, location_through, OriginsFall, OriginsAreThere, OriginsFall-trees_of, OriginsAreThere-trees_of, history_to, records_of, trees_to, names_below, came_from_itself, records_in, is_operative, down_from, operative_in, operative_from, operative_of, hit_at, Hit, AreSegments, IsSegment, Segment, segments_of, IsThere, first_revision, is_named_in, named_revisions}
+use Rattle.path_index.proofs.Common.{◌≡◌, ℕ, zero, suc, ◌+◌, ◌-◌, ◌<◌, ◌≤◌, nat_lt, Bool, true, false, not, ◌&&◌, ◌||◌, List, [], ◌∷◌, ◌++◌, Option, None, Some, map, filter, refl, sym, ap, ◌∙◌, arith, false_from_ne_true, lt-ltb, or_right, filter-append, same_name, NameId, IsSame, IsSame-same_name, History, origin_of, location, Tree, is_there, tree_of, NodeRecord, ValueId, location_is_there, location_through, OriginsFall, OriginsAreThere, OriginsFall-trees_of, OriginsAreThere-trees_of, history_to, records_of, trees_to, names_below, came_from_itself, records_in, is_operative, down_from, operative_in, operative_from, operative_of, hit_at, Hit, AreSegments, IsSegment, Segment, segments_of, IsThere, first_revision, is_named_in, named_revisions}
 use Rattle.std.proofs.Math.Bool.{or-false}
 use Rattle.path_index.proofs.HistoryTo.{records_in-history_to}
 use Rattle.path_index.proofs.CameFromItself.{came-from_location, location-from_came}

@@ -1,5 +1,5 @@
 -- The copies of a dump have paths of its names.
-use Rattle.std.proofs.Common.{◌≡◌, ℕ, List, [], All, IfSome, Option, filter, filter_map, length, get_or, map, arith, sym, subst}
+use Rattle.std.proofs.Common.{◌≡◌, ℕ, List, All, IfSome, filter, map, arith, sym, subst}
 use Rattle.std.proofs.Math.ListN.{get_or-map}
 use Rattle.std.proofs.lemmas.List.{length-map}
 use Rattle.std.proofs.lemmas.List.Elements.{All-filter, All-weaker}

@@ -1,5 +1,5 @@
 -- The locations of a path in its operative revisions, by its segments and their operative revisions.
-use Rattle.query_answer.proofs.Common.{◌≡◌, ℕ, zero, suc, pred, ◌+◌, ◌-◌, ◌<◌, ◌≤◌, Bool, true, false, if◌then◌else◌, List, [], ◌∷◌, ◌++◌, Option, Some, None, All, drop, filter, get_or, length, map, reverse, option_map, slice_get, take, refl, sym, ap, ap₂, ◌∙◌, append-nil, arith, filter_map, option_and_then, cons_option, range_with_len, map-id, reverse-append, take_more, All-append, All-cons, All-nil, filter_map-append, History, rename_history, location, Tree, rename_tree, down_from, hit_at, is_operative, operative_from, operative_in, operative_of, AreSegments, IsSegment, Segment, Hit, is_operative-rename, found_in, operative_location}
+use Rattle.query_answer.proofs.Common.{◌≡◌, ℕ, zero, suc, ◌+◌, ◌-◌, ◌<◌, ◌≤◌, Bool, true, false, if◌then◌else◌, List, [], ◌∷◌, ◌++◌, Option, Some, None, All, drop, filter, get_or, length, map, reverse, option_map, slice_get, take, refl, sym, ap, ap₂, ◌∙◌, append-nil, arith, filter_map, option_and_then, cons_option, range_with_len, map-id, reverse-append, take_more, All-append, All-cons, All-nil, filter_map-append, History, rename_history, location, Tree, rename_tree, down_from, hit_at, is_operative, operative_from, operative_in, operative_of, AreSegments, IsSegment, Segment, Hit, is_operative-rename, found_in, operative_location}
 use Rattle.std.proofs.lemmas.List.FromFn.{map-range_with_len_more}
 use Rattle.path_index.proofs.DownFrom.{down_from-append}
 use Rattle.svn_dump.proofs.Renaming.Locations.{location-rename}
