@@ -586,6 +586,9 @@ def answer_of(history: History, line: bytes) -> Lines:
 
 # Questions
 
+# All revisions, whatever their number.
+ALL = (0, GREATEST_REVISION)
+
 
 def kind_of(entry: Entry) -> bytes:
     """The kind of an entry of a tree, which always has one."""
@@ -593,14 +596,32 @@ def kind_of(entry: Entry) -> bytes:
     return entry.kind
 
 
+class Refused(Exception):
+    """Why a question has no result lines."""
+
+    def __init__(self, status: bytes) -> None:
+        super().__init__(status)
+        self.status = status
+
+
+def find(history: History, peg: Place) -> None:
+    """Raise why a path of a revision does not exist, if so."""
+    if peg.revision >= len(history.trees):
+        raise Refused(b"no-such-revision")
+    if peg.path not in history.trees[peg.revision]:
+        raise Refused(b"no-such-path")
+
+
 def entry_lines(history: History, peg: Place) -> Lines:
     """The kind of a path, and whether it has mergeinfo of its own."""
+    find(history, peg)
     entry = history.trees[peg.revision][peg.path]
     return [kind_of(entry) + (b"" if entry.mergeinfo is None else b" mergeinfo")]
 
 
 def list_lines(history: History, peg: Place) -> Lines:
     """The kind and the name of each entry directly below a path, in the order of the bytes of the names."""
+    find(history, peg)
     tree = history.trees[peg.revision]
     below = {path[-1]: entry for path, entry in tree.items() if path and path[:-1] == peg.path}
     return [kind_of(below[name]) + b" " + name for name in sorted(below)]
@@ -637,6 +658,10 @@ def life_lines(trees: list[Tree], path: Path, life: Bounds) -> Lines:
 def lives_lines(history: History, peg: Place) -> Lines:
     """The lives of a path up to its peg revision, the newest first."""
     trees = history.trees[: peg.revision + 1]
+    if peg.revision >= len(history.trees):
+        raise Refused(b"no-such-revision")
+    if not any(peg.path in tree for tree in trees):
+        raise Refused(b"no-such-path")
     return [line for life in reversed(lives(trees, peg.path)) for line in life_lines(trees, peg.path, life)]
 
 
@@ -648,6 +673,7 @@ def explicit(tree: Tree, path: Path) -> list[tuple[Path, bytes]]:
 
 def explicit_lines(history: History, peg: Place) -> Lines:
     """The paths at and below a path with mergeinfo of their own, each with the lines of its text."""
+    find(history, peg)
     found = explicit(history.trees[peg.revision], peg.path)
     return [
         line
@@ -658,6 +684,8 @@ def explicit_lines(history: History, peg: Place) -> Lines:
 
 def ancestor_lines(history: History, one: Place, other: Place) -> Lines:
     """The greatest revision in which both paths had the same location, with that location."""
+    find(history, one)
+    find(history, other)
     for rev in range(min(one.revision, other.revision), -1, -1):
         place = location(history.trees, *one, rev)
         if place is not None and place == location(history.trees, *other, rev):
@@ -692,57 +720,168 @@ def holding(history: History, peg: Place, value: Value, below: list[tuple[Path, 
     return b"in-part-below " + printed(paths[0]) if paths else None
 
 
+class Holder(NamedTuple):
+    """A path of a revision, the mergeinfo that holds for it, and that of the paths below it."""
+
+    peg: Place
+    value: Value
+    below: list[tuple[Path, Value]]
+
+
+def holder_of(history: History, peg: Place) -> Holder:
+    """Return what is needed to say what a path holds, or raise why that can't be said."""
+    find(history, peg)
+    try:
+        value = effective(history.trees[peg.revision], peg.path)
+    except Malformed:
+        raise Refused(b"malformed-mergeinfo") from None
+    return Holder(peg, value, values_below(history, peg))
+
+
+def extent(how: bytes | None) -> int:
+    """Return a greater number where more of a revision is held."""
+    ways = {b"in-part-below": 1, b"in-part": 2, b"merged": 3, b"history": 3}
+    return ways[how.partition(b" ")[0]] if how else 0
+
+
 def holds_lines(history: History, peg: Place, bounds: Bounds) -> Lines:
     """The revisions of a range that a path holds, the newest first, each with how it holds it."""
-    value, below = effective(history.trees[peg.revision], peg.path), values_below(history, peg)
-    low, high = bounds
+    holder, (low, high) = holder_of(history, peg), bounds
     revs = range(min(high, len(history.trees) - 1), low - 1, -1)
-    found = [(rev, holding(history, peg, value, below, rev)) for rev in revs]
+    found = [(rev, holding(history, *holder, rev)) for rev in revs]
     return [b"%d %s" % (rev, how) for rev, how in found if how is not None]
 
 
-class QuestionVerb(NamedTuple):
-    """The fields of a question, and its result lines."""
+class Comparison(NamedTuple):
+    """Two paths to compare, in which revisions, and those that don't count."""
 
-    forms: Sequence[Callable[[bytes], object]]
+    one: Place
+    other: Place
+    bounds: Bounds
+    uncounted: list[Run]
+
+
+def new_revisions(
+    history: History, one: Holder, other: Holder, bounds: Bounds, uncounted: list[Run]
+) -> list[tuple[int, bytes]]:
+    """Return the revisions of which the other path holds more than the one, the newest first, with how it holds each."""
+    low, high = bounds
+    found: list[tuple[int, bytes]] = []
+    for rev in range(min(high, len(history.trees) - 1), low - 1, -1):
+        how = holding(history, *other, rev)
+        if how and kind_in(uncounted, rev) is None and extent(holding(history, *one, rev)) < extent(how):
+            found.append((rev, how))
+    return found
+
+
+def compared(history: History, comparison: Comparison) -> list[tuple[int, bytes]]:
+    """Return what the other path of a comparison holds beyond the one."""
+    one, other = holder_of(history, comparison.one), holder_of(history, comparison.other)
+    return new_revisions(history, one, other, comparison.bounds, comparison.uncounted)
+
+
+def new_lines(history: History, comparison: Comparison) -> Lines:
+    """The new revisions, the newest first, each with how it is held."""
+    return [b"%d %s" % found for found in compared(history, comparison)]
+
+
+def new_ranges_lines(history: History, comparison: Comparison) -> Lines:
+    """The new revisions as a rangelist. One that is held in part alone is not inheritable."""
+    runs = canonical([Run(rev, rev, extent(how) == 3) for rev, how in compared(history, comparison)])
+    return [b",".join(map(printed_run, runs))] if runs else []
+
+
+def distance_line(history: History, one: Holder, uncounted: list[Run], field: bytes) -> bytes:
+    """The numbers of revisions that the path of a field holds beyond the one, and the one beyond it; or why not."""
+    try:
+        other = holder_of(history, peg_of(field))
+    except Malformed:
+        return b"bad-query"
+    except Refused as refusal:
+        return refusal.status
+    both = ((one, other), (other, one))
+    return b"%d %d" % tuple(len(new_revisions(history, *pair, ALL, uncounted)) for pair in both)
+
+
+def distance_lines(history: History, peg: Place, uncounted: list[Run], targets: Lines) -> Lines:
+    """A line for each target."""
+    one = holder_of(history, peg)
+    return [distance_line(history, one, uncounted, field) for field in targets]
+
+
+def descendants_lines(history: History, peg: Place, rev: int) -> Lines:
+    """The paths of a revision whose location in the peg revision was the path, in the order of their bytes."""
+    find(history, peg)
+    if rev >= len(history.trees):
+        raise Refused(b"no-such-revision")
+    if rev < peg.revision:
+        return []
+    paths = [path for path in history.trees[rev] if location(history.trees, path, rev, peg.revision) == peg.path]
+    return sorted(map(printed, paths))
+
+
+def fields_by(*forms: Callable[[bytes], object]) -> Callable[[Lines], list[object]]:
+    """Return a function that reads as many fields as there are forms."""
+
+    def said(fields: Lines) -> list[object]:
+        if len(fields) != len(forms):
+            raise Malformed
+        return [form(field) for form, field in zip(forms, fields)]
+
+    return said
+
+
+def rangelist_of(field: bytes) -> list[Run]:
+    return [run_of(element) for element in field.split(b",")] if field else []
+
+
+def comparison_of(fields: Lines) -> list[object]:
+    """Two pegs, and perhaps a range, and perhaps a rangelist."""
+    if not 2 <= len(fields) <= 4:
+        raise Malformed
+    bounds = range_of(fields[2]) if len(fields) > 2 else ALL
+    return [Comparison(peg_of(fields[0]), peg_of(fields[1]), bounds, rangelist_of(b"".join(fields[3:])))]
+
+
+def targets_of(fields: Lines) -> list[object]:
+    """A peg, a rangelist, and what may be further pegs."""
+    if len(fields) < 3:
+        raise Malformed
+    return [peg_of(fields[0]), rangelist_of(fields[1]), fields[2:]]
+
+
+class QuestionVerb(NamedTuple):
+    """A function that reads the fields of a question, and one that makes its result lines."""
+
+    said_by: Callable[[Lines], list[object]]
     lines_of: Callable[..., Lines]
 
 
 QUESTIONS = {
-    b"entry": QuestionVerb((peg_of,), entry_lines),
-    b"list": QuestionVerb((peg_of,), list_lines),
-    b"lives": QuestionVerb((peg_of,), lives_lines),
-    b"explicit": QuestionVerb((peg_of,), explicit_lines),
-    b"ancestor": QuestionVerb((peg_of, peg_of), ancestor_lines),
-    b"holds": QuestionVerb((peg_of, range_of), holds_lines),
+    b"entry": QuestionVerb(fields_by(peg_of), entry_lines),
+    b"list": QuestionVerb(fields_by(peg_of), list_lines),
+    b"lives": QuestionVerb(fields_by(peg_of), lives_lines),
+    b"explicit": QuestionVerb(fields_by(peg_of), explicit_lines),
+    b"ancestor": QuestionVerb(fields_by(peg_of, peg_of), ancestor_lines),
+    b"holds": QuestionVerb(fields_by(peg_of, range_of), holds_lines),
+    b"new": QuestionVerb(comparison_of, new_lines),
+    b"new-ranges": QuestionVerb(comparison_of, new_ranges_lines),
+    b"distance": QuestionVerb(targets_of, distance_lines),
+    b"descendants": QuestionVerb(fields_by(peg_of, revision_of), descendants_lines),
 }
-
-
-def question_of(fields: Lines) -> tuple[QuestionVerb, list[object]]:
-    """The verb of a question and what its fields say, of the fields after the first one."""
-    verb = QUESTIONS.get(fields[0]) if fields else None
-    if verb is None or len(fields) - 1 != len(verb.forms):
-        raise Malformed
-    return verb, [form(field) for form, field in zip(verb.forms, fields[1:])]
 
 
 def answer_of_question(history: History, fields: Lines) -> Lines:
     """The status, and the result lines, of the fields after the first one."""
+    verb = QUESTIONS.get(fields[0]) if fields else None
     try:
-        verb, said = question_of(fields)
+        if verb is None:
+            raise Malformed
+        return [b"ok"] + verb.lines_of(history, *verb.said_by(fields[1:]))
     except Malformed:
         return [b"bad-query"]
-    for peg in said:
-        if isinstance(peg, Place):
-            if peg.revision >= len(history.trees):
-                return [b"no-such-revision"]
-            first = 0 if verb.lines_of is lives_lines else peg.revision
-            if not any(peg.path in tree for tree in history.trees[first : peg.revision + 1]):
-                return [b"no-such-path"]
-    try:
-        return [b"ok"] + verb.lines_of(history, *said)
-    except Malformed:
-        return [b"malformed-mergeinfo"]
+    except Refused as refusal:
+        return [refusal.status]
 
 
 def answer_in_talk(history: History, line: bytes) -> Lines:

@@ -12,7 +12,7 @@ import contextlib
 import itertools
 import random
 import re
-from collections.abc import Callable
+from collections.abc import Callable, Iterator
 from typing import NamedTuple, Optional
 
 from dev import pieces
@@ -24,7 +24,18 @@ from model.drafts import Draft
 
 PEG = re.compile(rb"@([0-9]{1,9})(?![^\t])")
 # The verbs of questions, and how often of a hundred each is drawn.
-QUESTIONS = {b"lives": 25, b"list": 10, b"entry": 10, b"explicit": 15, b"ancestor": 15, b"holds": 25}
+QUESTIONS = {
+    b"lives": 15,
+    b"list": 5,
+    b"entry": 5,
+    b"explicit": 10,
+    b"ancestor": 10,
+    b"holds": 15,
+    b"new": 10,
+    b"new-ranges": 10,
+    b"distance": 10,
+    b"descendants": 10,
+}
 
 
 # fmt: off
@@ -188,16 +199,36 @@ def drawn_range(lot: random.Random, youngest: int) -> bytes:
     return b"%d:%d" % lot.choices(near, (40, 30, 10, 10, 2, 8))[0]
 
 
+def drawn_rangelist(lot: random.Random, youngest: int) -> bytes:
+    """A rangelist, mostly of a few revisions, or none."""
+    if lot.random() < 0.05:
+        return lot.choice(odd.RANGELISTS)
+    revs = [lot.randint(1, youngest + 1) for _ in range(lot.choice((0, 0, 1, 2, 5)))]
+    return b",".join(lot.choice((b"%d", b"%d*", b"%d-2147483647")) % rev for rev in revs)
+
+
+def drawn_fields(lot: random.Random, draft: Draft, youngest: int, verb: bytes) -> Iterator[bytes]:
+    """Yield the fields of a question after its verb."""
+    yield drawn_peg(lot, draft, youngest)
+    if verb == b"distance":
+        yield drawn_rangelist(lot, youngest)
+        yield from (drawn_peg(lot, draft, youngest) for _ in range(lot.choice((1, 1, 2, 3))))
+    if verb in {b"ancestor", b"new", b"new-ranges"}:
+        yield drawn_peg(lot, draft, youngest)
+    if verb == b"holds" or (verb.startswith(b"new") and lot.random() < 0.5):
+        yield drawn_range(lot, youngest)
+        if verb != b"holds" and lot.random() < 0.5:
+            yield drawn_rangelist(lot, youngest)
+    if verb == b"descendants":
+        yield b"%d" % lot.choice((youngest, youngest, lot.randint(0, youngest + 1)))
+
+
 def drawn_question(lot: random.Random, draft: Draft, youngest: int) -> bytes:
     """A question, or a line that is nearly one."""
     if lot.random() < 0.08:
         return lot.choice(odd.QUESTIONS)
     verb = lot.choices(list(QUESTIONS), list(QUESTIONS.values()))[0]
-    line = b"ask\t" + verb + b"\t" + drawn_peg(lot, draft, youngest)
-    if verb == b"ancestor":
-        line += b"\t" + drawn_peg(lot, draft, youngest)
-    if verb == b"holds":
-        line += b"\t" + drawn_range(lot, youngest)
+    line = b"\t".join((b"ask", verb, *drawn_fields(lot, draft, youngest, verb)))
     return drafts.changed(lot, line).replace(b"\n", b"\r") if lot.random() < 0.03 else line
 
 

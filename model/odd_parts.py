@@ -80,7 +80,18 @@ QUESTIONS = [b"ask", b"ask\t", b"ask\t\t", b"ask\tlives", b"ask\tlist\t", b"ask\
              b"ask\tentry\t" + b"/" * 1500 + b"@01", b"ask\tholds\t@1", b"ask\tholds\t@1\t1", b"ask\tholds\t@1\t1:0",
              b"ask\tholds\t@1\t0:1\t", b"ask\tholds\t@1\t0:2147483648", b"ask\tholds\t@0\t0000:2147483647",
              b"ask\tholds\t0:1\t@1", b"ask\tancestor\t@1", b"ask\tancestor\t@1\t@1\t@1", b"ask\tancestor\t@1\t0:1",
-             b"ask\tancestor\t@0\t@0", b"ask\texplicit\t@1\t@1", b"ask\texplicit\t", b"ask\texplicit\t@0"]
+             b"ask\tancestor\t@0\t@0", b"ask\texplicit\t@1\t@1", b"ask\texplicit\t", b"ask\texplicit\t@0",
+             b"ask\tnew\t@1", b"ask\tnew\t@1\t@1\t", b"ask\tnew\t@1\t@1\t0:1\t", b"ask\tnew\t@1\t@1\t0:1\t1\t",
+             b"ask\tnew\t@1\t@1\t0:1\t0", b"ask\tnew\t@1\t@1\t1", b"ask\tnew\t@1\t0:1", b"ask\tnew\t@1\t@1\t\t",
+             b"ask\tnew\t@0\t@0\t0:2147483647\t1-2147483647", b"ask\tnew-ranges\t@1", b"ask\tnew-range\t@1\t@1",
+             b"ask\tnew-ranges\t@1\t@1\t1:0", b"ask\tnew-ranges\t@1\t@1\t0:1\t2-1", b"ask\tdistance\t@1",
+             b"ask\tdistance\t@1\t", b"ask\tdistance\t@1\t@1", b"ask\tdistance\t@1\t\t", b"ask\tdistance\t@1\t0\t@1",
+             b"ask\tdistance\t@0\t\t\t@0\t", b"ask\tdistance\t@0\t1,\t@0", b"ask\tdescendants\t@1",
+             b"ask\tdescendants\t@1\t@1", b"ask\tdescendants\t@0\t2147483648", b"ask\tdescendants\t@0\t0\t0",
+             b"ask\tdescendants\t@0\t0000"]
+# Fields that are no rangelists, most of them nearly.
+RANGELISTS = [b"0", b"1,", b",1", b"2-1", b"1-1", b"1--2", b"1**", b"*", b"-", b"1 ", b" 1", b"2147483648", b"1;2",
+              b"@1", b"/a:1", b"1-2147483648", b"0001-02", b"1,1", b"1,1*", b"1\r"]
 FIELDS = [b"", b"1", b"a", b"a@", b"@", b"@x", b"a@-1", b"a@ 1", b"@1 ", b"@1\r", b"@HEAD", b"a@2147483648",
           b"./a@1", b"a/../b@0", b"..@1", b"a/.@2147483647"]
 FORMATS = [b"", b"0", b"1", b"4", b"02", b"03", b"2 ", b"3 ", b"3\r", b" 3", b"23", b"33", b"2\n3"]

@@ -73,7 +73,11 @@ BAD = [
     b"list\t@1", b"entry\t@1", b"ask\tholds\t@1", b"ask\tholds\t@1\t1", b"ask\tholds\t@1\t1:0", b"ask\tholds\t0:1\t@1",
     b"ask\tholds\t@1\t0:1\t", b"ask\tholds\t@1\t0:2147483648", b"ask\tholds\t@1\t@1", b"ask\tancestor\t@1",
     b"ask\tancestor\t@1\t@1\t@1", b"ask\tancestor\t@1\t0:1", b"ask\tancestor\t@1\t./@1", b"ask\texplicit\t@1\t@1",
-    b"ask\texplicit\t", b"explicit\t@1", b"ancestor\t@1\t@1", b"holds\t@1\t0:1",
+    b"ask\texplicit\t", b"explicit\t@1", b"ancestor\t@1\t@1", b"holds\t@1\t0:1", b"ask\tnew\t@1",
+    b"ask\tnew\t@1\t@1\t", b"ask\tnew\t@1\t@1\t0:1\t1\t", b"ask\tnew\t@1\t@1\t1:0", b"ask\tnew\t@1\t@1\t1",
+    b"ask\tnew\t@1\t@1\t0:1\t1,", b"ask\tnew-range\t@1\t@1", b"ask\tnew-ranges\t@1\t@1\t\t1", b"ask\tdistance\t@1",
+    b"ask\tdistance\t@1\t", b"ask\tdistance\t@1\t@1\t@1", b"ask\tdescendants\t@1", b"ask\tdescendants\t@1\t@1",
+    b"ask\tdescendants\t@1\t1\t1", b"new\t@1\t@1", b"distance\t@1\t\t@1", b"descendants\t@1\t1",
 ]
 # fmt: on
 
@@ -300,6 +304,72 @@ class Questions(ProgramTest):
             b"trunk@11\t0:8": b"no-such-revision",
         }
         self.check_talk(MERGES, asked(b"holds", replies))
+
+    def test_new(self) -> None:
+        """What is held in part is new where more of it is held than before."""
+        all_of_trunk = b"ok\n8 history\n6 history\n4 history"
+        replies = {
+            b"trunk@8\tb@8": b"ok\n7 history\n5 history\n2 history",
+            b"b@8\ttrunk@8": all_of_trunk,
+            b"b@8\ttrunk@8\t0:2147483647": all_of_trunk,
+            b"b@8\ttrunk@8\t4:7": b"ok\n6 history\n4 history",
+            b"b@8\ttrunk@8\t0:8\t": all_of_trunk,
+            b"b@8\ttrunk@8\t0:8\t5-6,8*": b"ok\n4 history",
+            b"trunk@3\ttrunk@8": b"ok\n8 history\n7 in-part-below /trunk/f\n6 history\n5 in-part\n4 history\n3 merged",
+            b"trunk/f@8\ttrunk@8": b"ok\n6 history\n5 in-part\n4 history\n3 merged",
+            b"b@8\ttrunk@3": b"ok",
+            b"trunk@8\ttrunk@8": b"ok",
+            # The first path is looked at as a whole before the second one, and the rangelist before both.
+            b"trunk@10\tx@8": b"malformed-mergeinfo",
+            b"x@8\ttrunk@99": b"no-such-path",
+            b"trunk@8\ttrunk@11": b"no-such-revision",
+            b"trunk@8\ttrunk@10": b"malformed-mergeinfo",
+            b"x@8\ttrunk@8\t0:8\t0": b"bad-query",
+        }
+        self.check_talk(MERGES, asked(b"new", replies))
+
+    def test_new_ranges(self) -> None:
+        replies = {
+            b"trunk@3\ttrunk@8": b"ok\n3-4,5*,6,7*,8",
+            b"trunk@3\ttrunk@8\t4:7\t6": b"ok\n4,5*,7*",
+            b"b@8\ttrunk@8": b"ok\n4,6,8",
+            b"@0\tb@8": b"ok\n1-3,5,7",
+            b"trunk@8\ttrunk@8": b"ok",
+            b"trunk@8\tx@8": b"no-such-path",
+        }
+        self.check_talk(MERGES, asked(b"new-ranges", replies))
+
+    def test_distance(self) -> None:
+        """What is wrong with one path is said in its line."""
+        replies = {
+            b"trunk@8\t\tb@8\ttrunk@3\ttrunk@8": b"ok\n3 3\n0 6\n0 0",
+            b"b@8\t5-6,8\ttrunk@8\tx@8\ttrunk@10\ttrunk@11\tx\t": b"ok\n1 2\nno-such-path\nmalformed-mergeinfo\n"
+            b"no-such-revision\nbad-query\nbad-query",
+            b"trunk@10\t\tb@8": b"malformed-mergeinfo",
+            b"x@8\t\tb@8": b"no-such-path",
+            b"trunk@8\t3,\tb@8": b"bad-query",
+        }
+        self.check_talk(MERGES, asked(b"distance", replies))
+
+    def test_descendants(self) -> None:
+        replies = {
+            b"x@1\t0": b"ok",
+            b"x@1\t1": b"ok\n/x",
+            b"x@1\t5": b"ok\n/x",
+            b"x@1\t6": b"ok\n/y",
+            # It was deleted, and another one has its name.
+            b"x@1\t7": b"ok",
+            b"d@1\t2": b"ok\n/m-d\n/m/d",
+            b"d@1\t4": b"ok\n/late\n/m/d",
+            b"d@1\t9": b"ok\n/all/w\n/w",
+            b"d/f@1\t7": b"ok\n/late/f",
+            b"@0\t9": b"ok\n/\n/all",
+            b"@8\t9": b"ok\n/\n/all",
+            b"x@1\t10": b"no-such-revision",
+            b"q@1\t99": b"no-such-path",
+            b"x@10\t9": b"no-such-revision",
+        }
+        self.check_talk(WAYS, asked(b"descendants", replies))
 
     def test_lines_that_are_no_questions(self) -> None:
         self.check_talk(MOVED, [(line + b"\n", b"bad-query") for line in BAD])
