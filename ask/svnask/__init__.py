@@ -19,7 +19,8 @@ from typing import TYPE_CHECKING
 if TYPE_CHECKING:
     from svnask.branches.gained import Gained
     from svnask.branches.heirs import Heir, Step
-    from svnask.branches.questions import Holder, Left, Listed, TagEvent, Touched
+    from svnask.branches.holders import Holder
+    from svnask.branches.questions import Left, Listed, TagEvent, Touched
     from svnask.copy.changes import Change
     from svnask.copy.sections import Setting
     from svnask.copy.store import Record, Revision
@@ -99,7 +100,8 @@ __all__ = [
 _MODULES = {
     "branches.gained": "Gained",
     "branches.heirs": "Heir Step",
-    "branches.questions": "Holder Left Listed TagEvent Touched",
+    "branches.holders": "Holder",
+    "branches.questions": "Left Listed TagEvent Touched",
     "copy.changes": "Change",
     "copy.sections": "Setting",
     "copy.store": "Record Revision",

@@ -11,7 +11,8 @@ from svnask.asking.words import access_of
 from svnask.branches import questions
 from svnask.branches.gained import Gained, gained
 from svnask.branches.heirs import Heir, heirs
-from svnask.branches.questions import Holder, Left, Listed, Touched
+from svnask.branches.holders import Holder, holders
+from svnask.branches.questions import Left, Listed, Touched
 from svnask.copy.changes import Change
 from svnask.copy.store import Record, Revision
 from svnask.engine.queries import A, Answer, Answers, Located, Logged, Query, Segments
@@ -305,7 +306,7 @@ class History:
         >>> history.contains(9)
         [Holder(path=b'/branches/two', how='history', below=None)]
         """
-        return list(questions.holders(self._history, patterns_given(patterns), rev, peg))
+        return list(holders(self._history, patterns_given(patterns), rev, peg))
 
     def unmerged(self, into: Path | Pegged | None = None, patterns: Patterns = ()) -> list[Left]:
         """Return what of each branch of today is still to be merged into a path, with or without a peg revision, or

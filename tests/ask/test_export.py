@@ -14,7 +14,7 @@ from unittest import mock
 
 from dev.dumps import added, changed, copied, deleted, dump_of, mergeinfo
 from dev.tree import DOCS
-from svnask.branches.questions import IN_PART, MERGED, holders_of_all
+from svnask.branches.holders import IN_PART, MERGED, holders_of_all
 from svnask.export import database
 from svnask.history.open_history import OpenHistory
 from tests.ask import base

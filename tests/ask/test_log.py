@@ -4,6 +4,7 @@ from __future__ import annotations
 
 from dev.dumps import FILE, Dump, Revision, added, changed, copied, deleted, dump_of
 from svnask.branches import questions as branches
+from svnask.branches.holders import holders
 from svnask.history.targets import Target
 from svnask.log import selection as log
 from tests.ask import base
@@ -66,7 +67,7 @@ class Log(base.Case):
             alive = [life.path for life in branches.lives_of(history, patterns) if life.is_alive]
             logs = {path: log.log_items(history, Target(path, history.head), [], log.Options()) for path in alive}
             for rev in range(1, history.head + 1):
-                found = [each.path for each in branches.holders(history, patterns, rev) if each.how == "history"]
+                found = [each.path for each in holders(history, patterns, rev) if each.how == "history"]
                 self.assertEqual(found, [path for path in alive if rev in logs[path]], (name, rev))
 
     def test_a_path_that_is_gone_is_told_with_what_became_of_it(self) -> None:

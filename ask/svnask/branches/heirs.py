@@ -4,11 +4,10 @@ from __future__ import annotations
 from collections.abc import Iterable, Iterator, Sequence
 from typing import NamedTuple
 
-from svnask.engine.queries import Locate, LocationSegments, Segment, is_askable
-from svnask.history.lives import Event
-from svnask.history.open_history import OpenHistory
+from svnask.engine.queries import Descendants, Locate, LocationSegments, Segment, is_askable
+from svnask.history.open_history import OpenHistory, one
 from svnask.history.targets import Target
-from svnask.paths import Place, components, joined, rest_below, tops_of
+from svnask.paths import Place, components
 
 
 class Step(NamedTuple):
@@ -24,48 +23,6 @@ class Heir(NamedTuple):
 
     path: bytes
     way: list[Step]
-
-
-class PossibleHeirs:
-    """The paths that may have come from a target, by all copies up to a revision.
-
-    They are more than did: that a path ended before it was copied is left to svnhist.
-    """
-
-    def __init__(self, turns: Iterable[tuple[bytes, Event]], target: Target, last: int) -> None:
-        # Of each path the first revision in which it may be an heir, and the paths at or below each path.
-        self._first: dict[bytes, int] = {}
-        self._below: dict[bytes, list[bytes]] = {}
-        # The revisions and paths of deletions and replacements, which end what is at and below a path.
-        self._ends: set[Place] = set()
-        self._add(target.path, target.rev)
-        for path, event in turns:
-            if target.rev < event.rev <= last:
-                self._follow(path, event)
-
-    @property
-    def paths(self) -> list[bytes]:
-        return sorted(self._first, key=components)
-
-    def may_have_ended(self, path: bytes, rev: int) -> bool:
-        """Return whether a revision may have ended what was at a path."""
-        return any((top, rev) in self._ends for top in tops_of(path))
-
-    def _add(self, path: bytes, rev: int) -> None:
-        if path not in self._first:
-            self._first[path] = rev
-            for top in tops_of(path):
-                self._below.setdefault(top, []).append(path)
-
-    def _follow(self, copy: bytes, event: Event) -> None:
-        if event.action in ("delete", "replace"):
-            self._ends.add((copy, event.rev))
-        if event.source is None:
-            return
-        top, rev = event.source
-        for path in tuple(self._below.get(top, ())):
-            if self._first[path] <= rev:
-                self._add(joined(copy, rest_below(path, top)), event.rev)
 
 
 def copies_to(segments: Sequence[Segment], peg: int) -> Iterator[tuple[int, Place]]:
@@ -92,14 +49,12 @@ def moved_copies(history: OpenHistory, copies: Iterable[tuple[int, Place]]) -> s
 def heirs(history: OpenHistory, target: Target, last: int) -> Iterator[Heir]:
     """The paths of a revision that were the target in its peg revision, in the order of paths. The way of each is not
     held: in a chain of copies all of them are as long as the square of the chain."""
-    candidates = PossibleHeirs(history.tree.turns, target, last)
-    queries = [LocationSegments(path, last) for path in history.askable(candidates.paths)]
+    paths = one(history.ask([Descendants(*target, last)])).paths
+    queries = [LocationSegments(path, last) for path in history.askable(sorted(paths, key=components))]
     is_move: dict[tuple[int, Place], bool] = {}
     for query, answer in zip(queries, history.ask(queries)):
-        segments = answer.segments
-        if any(each.lo <= target.rev <= each.hi and each.path == target.path for each in segments):
-            way = list(copies_to(segments, target.rev))
-            new = [copy for copy in way if copy not in is_move]
-            moves = moved_copies(history, [copy for copy in new if candidates.may_have_ended(copy[1][0], copy[0])])
-            is_move.update((copy, copy in moves) for copy in new)
-            yield Heir(query.path, [Step(*copy, is_move[copy]) for copy in way])
+        way = list(copies_to(answer.segments, target.rev))
+        new = [copy for copy in way if copy not in is_move]
+        moves = moved_copies(history, new)
+        is_move.update((copy, copy in moves) for copy in new)
+        yield Heir(query.path, [Step(*copy, is_move[copy]) for copy in way])

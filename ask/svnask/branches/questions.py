@@ -2,29 +2,25 @@
 from __future__ import annotations
 
 import itertools
-from collections.abc import Callable, Iterable, Iterator, Mapping, Sequence
-from functools import cache
+from collections.abc import Callable, Iterable, Iterator, Sequence
 from typing import NamedTuple
 
 from svnask import projects
-from svnask.engine.queries import Answer, Answers, LocationSegments, Log, Logged, Mergeinfo, Query, Segment
+from svnask.engine.queries import Answer, Answers, LocationSegments, Log, Logged, Query, Segment
 from svnask.errors import Denied
 from svnask.history.lives import Life, chains_of, is_plain, lives_at, unmatched
 from svnask.history.open_history import OpenHistory
 from svnask.history.targets import Target
 from svnask.log import selection as log
-from svnask.mergeinfo.values import Value, value_by_ranges, value_of
 from svnask.merges import show_revs as mergeinfo
 from svnask.merges.recorded import Merged, Recorded
-from svnask.paths import NUL_FOR_SLASH, Place, components, is_at_or_below, tops_of
+from svnask.paths import Place, components, is_at_or_below
 from svnask.revisions import in_range
 from svnask.texts import decoded
 
 # How many revisions are looked through at first for the last change of a life, and how many times more at each further
 # look.
 FIRST_WINDOW, WINDOW_GROWS = 4096, 256
-# How a branch or a tag has a revision.
-HISTORY, MERGED, IN_PART, RECORDED = "history", "merged", "merged in part", "recorded"
 # What happens to a tag.
 CHANGED, AGAIN, DELETED, RENAMED = "changed", "made again", "deleted", "renamed"
 
@@ -148,155 +144,6 @@ def operative(lives: Sequence[Life], answers: Iterator[Answer]) -> dict[Life, li
             is_renewed = life.source == (life.path, life.first - 1) and life.first not in revisions[:1]
             found[life] = [life.first] * is_renewed + revisions
     return {life: found[life] for life in lives}
-
-
-class Holder(NamedTuple):
-    """A path that has a revision: in its own history, by a merge, whole or in part, or by a record of one alone. `below`
-    is the first path below it by whose own mergeinfo it has that, if it has it by no other."""
-
-    path: bytes
-    how: str
-    below: bytes | None = None
-
-
-class HolderQueries(NamedTuple):
-    """The queries about a branch or a tag that may have a revision. They ask where it was only if `svn log` may list
-    more than svnhist."""
-
-    log: Log
-    value: Mergeinfo
-    where: LocationSegments | None
-
-    def queries(self) -> Iterator[Query[Answer]]:
-        yield from (self.log, self.value)
-        if self.where is not None:
-            yield self.where
-
-
-class Held(NamedTuple):
-    """A revision that a branch or a tag has: today, or as it was in a peg revision."""
-
-    rev: int
-    holder: Holder
-    peg: int | None
-
-
-def holders(history: OpenHistory, patterns: Sequence[bytes], rev: int, peg: int | None = None) -> Iterator[Holder]:
-    """The branches and tags that have a revision: today, or in a peg."""
-    return (each.holder for each in holders_of_all(history, patterns, [rev], peg))
-
-
-def holders_of_all(
-    history: OpenHistory, patterns: Sequence[bytes], revs: Sequence[int], peg: int | None = None
-) -> Iterator[Held]:
-    """Yield what branches and tags have of some rising revisions, revision after revision: today, or in a peg."""
-    head = history.head if peg is None else peg
-    for rev in (*revs[:1], *revs[-1:], head):
-        # A script may ask for one that there is not.
-        history.changes(rev)
-    alive = alive_in(history, lives_of(history, patterns), peg)
-    revs = [rev for rev in revs if rev <= head]
-    if not revs:
-        # Nothing is asked, and the dump may be one that is refused.
-        history.check()
-        return
-    bounds = (revs[0], revs[-1])
-    lists_more = log.may_list_more(history)
-    places = [(life.path, head) for life in alive]
-    asked = [
-        HolderQueries(
-            Log(*place, bounds),
-            Mergeinfo(*place),
-            LocationSegments(*place) if lists_more or place[0] == b"/" else None,
-        )
-        for place in places
-    ]
-    answers = history.answers(query for each in asked for query in each.queries())
-    copied = CopiedPaths(history)
-    found: dict[int, dict[bytes, Holder]] = {rev: {} for rev in revs}
-    named: dict[Place, dict[int, list[Naming]]] = {}
-    for place, each in zip(places, asked):
-        segments, value = [] if each.where is None else answers[each.where].segments, answers[each.value]
-        own = found.keys() & set(log.listed(history, log.Trace(segments, answered(answers[each.log]))))
-        for rev in own:
-            found[rev][place[0]] = Holder(place[0], HISTORY)
-        if value.ok and len(own) < len(revs):
-            lacking = [rev for rev in revs if rev not in own]
-            named[place] = namings(history, value_by_ranges(value.value), lacking, copied)
-    gaining = [place for place, namings_of in named.items() if namings_of]
-    for place, recorded in zip(gaining, Recorded(history).of(gaining)):
-        for rev, namings_of in named[place].items():
-            found[rev][place[0]] = Holder(place[0], how_merged(namings_of, recorded, rev))
-    left = {
-        place: {rev for rev in revs if place[0] not in found[rev]}
-        for place in places
-        # What the branches in a folder have, the folder has not.
-        if history.tree.branch_kind(place[0]) != projects.FOLDER
-    }
-    for rev, holder in holders_below(history, left, revs, copied):
-        found[rev][holder.path] = holder
-    for rev in revs:
-        yield from (Held(rev, found[rev][path], peg) for path, _ in places if path in found[rev])
-
-
-def holders_below(
-    history: OpenHistory, lacking: Mapping[Place, set[int]], revs: Sequence[int], copied: CopiedPaths
-) -> Iterator[tuple[int, Holder]]:
-    """Yield those of the rising revisions that places lack, and have by the mergeinfo of a path below them."""
-    # Many paths have the same value.
-    named = cache(lambda text: namings(history, value_of(text) or {}, revs, copied))
-    recorded = Recorded(history)
-    for (top, head), left in lacking.items():
-        found: dict[int, Holder] = {}
-        values = dict(history.explicit.below(top, head) if left else ())
-        for path in sorted(values, key=NUL_FOR_SLASH):
-            text = values[path]
-            gained = left.intersection(named(text)) if path != top else set()
-            of_path = recorded.of([(path, head)] * bool(gained))
-            for rev in gained:
-                is_recorded = how_merged(named(text)[rev], of_path[0], rev) == RECORDED
-                # What was merged counts before what was only recorded.
-                if rev not in found or found[rev].how == RECORDED and not is_recorded:
-                    found[rev] = Holder(top, RECORDED if is_recorded else IN_PART, path)
-        yield from found.items()
-
-
-class Naming(NamedTuple):
-    """A source path of which mergeinfo has a revision, and whether as a whole."""
-
-    source: bytes
-    is_whole: bool
-
-
-class CopiedPaths(dict[int, set[bytes]]):
-    """The paths that revisions made by copies, each found once."""
-
-    def __init__(self, history: OpenHistory) -> None:
-        super().__init__()
-        self._history = history
-
-    def __missing__(self, rev: int) -> set[bytes]:
-        found = self[rev] = {change.path for change in self._history.changes(rev) if change.source is not None}
-        return found
-
-
-def namings(history: OpenHistory, value: Value, revs: Sequence[int], copied: CopiedPaths) -> dict[int, list[Naming]]:
-    """The sources of which mergeinfo has rising revisions, and which the revision changed and left there."""
-    found: dict[int, list[Naming]] = {}
-    for source, runs in value.items():
-        tops = frozenset(tops_of(source))
-        for run in runs:
-            for rev in in_range(revs, run.lo, run.hi):
-                is_changed = history.changes_below(rev, source) or not copied[rev].isdisjoint(tops)
-                if is_changed and history.tree.exists(source, rev):
-                    found.setdefault(rev, []).append(Naming(source, run.inheritable))
-    return found
-
-
-def how_merged(named: Sequence[Naming], recorded: Merged, rev: int) -> str:
-    """Return whether a revision was merged, and if so whether as a whole, or only recorded."""
-    found = [each.is_whole for each in named if rev not in recorded.get(each.source, ())]
-    return RECORDED if not found else MERGED if any(found) else IN_PART
 
 
 class Left(NamedTuple):

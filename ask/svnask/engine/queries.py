@@ -146,6 +146,46 @@ class OwnMergeinfo(Answer):
         return [(path, b"\n".join(lines)) for path, lines in found]
 
 
+class SharedPlace(Answer):
+    """The greatest revision in which two paths had one location, and that location."""
+
+    query: Ancestor
+
+    @property
+    def place(self) -> tuple[bytes, int] | None:
+        rev, _, path = self.text.partition(b" ")
+        return (path, int(rev)) if path else None
+
+
+class HowHeld(Answer):
+    """Revisions that a path holds, the newest first."""
+
+    query: Holds
+
+    @property
+    def ways(self) -> list[tuple[int, bytes]]:
+        """Return each revision with how it is held: `history`, `merged`, `in-part` or `in-part-below PATH`."""
+        pairs = [line.partition(b" ") for line in self.lines]
+        return [(int(rev), way) for rev, _, way in pairs]
+
+
+class DescendantPaths(Answer):
+    """The paths of a revision that were a path in another one, in the order of their bytes."""
+
+    query: Descendants
+
+    @property
+    def paths(self) -> list[bytes]:
+        found: list[bytes] = []
+        for line in self.lines:
+            if line.startswith(b"/"):
+                found.append(line)
+            else:
+                # A path may have a newline.
+                found[-1] += b"\n" + line
+        return found
+
+
 class Merges(Answer):
     """The revisions of a source that were merged into a target, or are still to be merged, rising."""
 
@@ -289,6 +329,60 @@ class ExplicitMergeinfo(Query[OwnMergeinfo]):
 
     def answer(self, status: str, text: bytes) -> OwnMergeinfo:
         return OwnMergeinfo(self, status, text)
+
+
+class Ancestor(Query[SharedPlace]):
+    """The question where two paths had one location for the last time.
+
+    >>> Ancestor(b"trunk", 8, b"branches/two", 8).answer("ok", b"2 /trunk").place
+    (b'/trunk', 2)
+    """
+
+    def __init__(self, path: bytes, rev: int, other: bytes, other_rev: int) -> None:
+        super().__init__(path, rev)
+        self.other, self.other_rev = other, other_rev
+
+    def line(self) -> bytes:
+        return b"ask\tancestor\t%s\t%s" % (peg_text(self.path, self.rev), peg_text(self.other, self.other_rev))
+
+    def answer(self, status: str, text: bytes) -> SharedPlace:
+        return SharedPlace(self, status, text)
+
+
+class Holds(Query[HowHeld]):
+    """The question which revisions of a range a path holds, and how.
+
+    >>> Holds(b"trunk", 8, (3, 5)).answer("ok", b"5 merged\\n4 history").ways
+    [(5, b'merged'), (4, b'history')]
+    """
+
+    def __init__(self, path: bytes, rev: int, range: Range) -> None:  # pylint: disable=redefined-builtin
+        super().__init__(path, rev)
+        self.range = range
+
+    def line(self) -> bytes:
+        return b"ask\tholds\t" + peg_text(self.path, self.rev) + range_text(self.range)
+
+    def answer(self, status: str, text: bytes) -> HowHeld:
+        return HowHeld(self, status, text)
+
+
+class Descendants(Query[DescendantPaths]):
+    """The question which paths of the revision `at` were a path in its peg revision.
+
+    >>> Descendants(b"trunk", 3, 8).answer("ok", b"/branches/two\\n/trunk").paths
+    [b'/branches/two', b'/trunk']
+    """
+
+    def __init__(self, path: bytes, rev: int, at: int) -> None:
+        super().__init__(path, rev)
+        self.at = at
+
+    def line(self) -> bytes:
+        return b"ask\tdescendants\t%s\t%d" % (peg_text(self.path, self.rev), self.at)
+
+    def answer(self, status: str, text: bytes) -> DescendantPaths:
+        return DescendantPaths(self, status, text)
 
 
 class Pair(Query[Merges]):

@@ -14,7 +14,8 @@ from functools import partial
 from typing import Any, NamedTuple
 
 from svnask import __version__
-from svnask.branches.questions import HISTORY, IN_PART, MERGED, RENAMED, touched
+from svnask.branches.holders import HISTORY, IN_PART, MERGED
+from svnask.branches.questions import RENAMED, touched
 from svnask.errors import Failed, Usage
 from svnask.export.others import Chain, Examined, Others
 from svnask.export.schema import DERIVED, INDEX, TABLES

@@ -7,7 +7,7 @@ from collections.abc import Collection, Iterator, Mapping
 from typing import NamedTuple
 
 from svnask.branches.gained import Holdings
-from svnask.branches.questions import Holder, holders_of_all
+from svnask.branches.holders import Holder, holders_of_all
 from svnask.engine.queries import Answer, Answers, LocationSegments, Log, Mergeinfo, Query, is_askable
 from svnask.history.lives import Life
 from svnask.history.open_history import OpenHistory

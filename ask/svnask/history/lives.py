@@ -246,17 +246,7 @@ class Tree:
     @functools.cached_property
     def copies(self) -> list[tuple[bytes, Event]]:
         """The copies, in the order of the dump, with their paths."""
-        return [(path, event) for path, event in self.turns if event.source is not None]
-
-    @functools.cached_property
-    def turns(self) -> list[tuple[bytes, Event]]:
-        """The copies, deletions and replacements, in the order of the dump, with their paths."""
-        found = [
-            (path, event)
-            for path, events in self._events.items()
-            for event in events
-            if event.source is not None or event.action != "add"
-        ]
+        found = [(path, event) for path, events in self._events.items() for event in events if event.source is not None]
         return sorted(found, key=lambda each: each[1].number)
 
     @functools.cached_property

@@ -4,7 +4,7 @@ from __future__ import annotations
 from collections.abc import Iterator, Sequence
 from typing import NamedTuple
 
-from svnask.engine.queries import Answers, LocationSegments
+from svnask.engine.queries import Ancestor, Answers, LocationSegments
 from svnask.errors import Denied
 from svnask.history.open_history import OpenHistory
 from svnask.history.targets import Target
@@ -53,7 +53,7 @@ class BranchPair:
         question = mergeinfo.Question("merged", is_recursive=True)
         pairs = (source, target), (target, source)
         queries = [query for pair in pairs for query in mergeinfo.queries_of_question(self._explicit, *pair, question)]
-        self._answers: Answers = history.answers(queries)
+        self._answers: Answers = history.answers([*queries, Ancestor(*source, *target)])
         self._merges = mergeinfo.ShownMerges(history, self._explicit, self._answers)
         self._places = {each: self._located(each) for each in (source, target)}
 
@@ -66,17 +66,8 @@ class BranchPair:
 
     def ancestor(self) -> Target | None:
         """The youngest place at which both were."""
-        these, those = (self._ranges(each) for each in (self.source, self.target))
-        shared = ((path, mergeinfo.last_shared(these[path], those[path])) for path in these.keys() & those.keys())
-        found = [Target(path, rev) for path, rev in shared if rev is not None]
-        return max(found, key=lambda place: place.rev) if found else None
-
-    def _ranges(self, branch: Target) -> dict[bytes, list[range]]:
-        """Return the revisions in which a branch was at each path."""
-        found: dict[bytes, list[range]] = {}
-        for low, high, path in self._places[branch]:
-            found.setdefault(path, []).append(range(low, high + 1))
-        return found
+        place = self._answers[Ancestor(*self.source, *self.target)].place
+        return None if place is None else Target(*place)
 
     def last_merges(self, ancestor: Target) -> tuple[Target, Target]:
         """The youngest place of each branch up to which all was merged to the other, or the ancestor."""

@@ -7,7 +7,7 @@ from collections.abc import Iterable, Iterator, Sequence
 from operator import attrgetter
 
 from svnask.asking.verb import Object, Verb, add_log, add_patterns, fields_line, fields_of_log, object_of_log, shown
-from svnask.branches import questions as branches
+from svnask.branches.holders import RECORDED, Held, Holder, holders_of_all
 from svnask.cli.verbs.log import glob_of
 from svnask.errors import Usage
 from svnask.history.open_history import OpenHistory
@@ -51,7 +51,7 @@ class ContainsVerb(Verb):
         parser.add_argument("--in", dest="inside", metavar="PATTERN", action="append", default=[], help=OF_IN)
         add_log(parser)
 
-    def held(self, history: OpenHistory, given: Namespace) -> Iterable[branches.Held]:
+    def held(self, history: OpenHistory, given: Namespace) -> Iterable[Held]:
         """Yield each revision that is asked about with each path that has it."""
         words, patterns = split_words([*filter(None, [given.revision]), *given.patterns])
         if not words and not given.ranges and not given.search:
@@ -63,7 +63,7 @@ class ContainsVerb(Verb):
             found.update(filter(None, between(history, range_of(history, text))))
         found.update(searched(history, [glob_of(word) for word in given.search]))
         tables = (
-            branches.holders_of_all(history, asked, sorted(found), peg)
+            holders_of_all(history, asked, sorted(found), peg)
             for peg, asked in patterns_by_peg(history, [*patterns, *given.inside]).items()
         )
         return heapq.merge(*tables, key=attrgetter("rev"))
@@ -86,11 +86,11 @@ class ContainsVerb(Verb):
             yield {"path": decoded(path), **as_of, "how": how, "below": shown(below), "revision": rev, **about}
 
 
-def how_in_words(holder: branches.Holder) -> bytes:
+def how_in_words(holder: Holder) -> bytes:
     """Return how a path has a revision, with the path below it by which it does."""
     if holder.below is None:
         return encoded(holder.how)
-    return (b"recorded" if holder.how == branches.RECORDED else b"in part") + b", in " + holder.below
+    return (b"recorded" if holder.how == RECORDED else b"in part") + b", in " + holder.below
 
 
 def patterns_by_peg(history: OpenHistory, texts: Sequence[str]) -> dict[int | None, list[bytes]]:

@@ -8,7 +8,8 @@ from collections.abc import Iterable, Iterator
 from svnask import projects
 from svnask.asking.verb import Object, Verb, add_log, fields_line, object_of_revision
 from svnask.branches.gained import Gained, gained
-from svnask.branches.questions import RECORDED, touched
+from svnask.branches.holders import RECORDED
+from svnask.branches.questions import touched
 from svnask.history.open_history import OpenHistory
 from svnask.history.targets import Target, pattern_of_path, target_of
 from svnask.log import selection as log
