@@ -14,12 +14,14 @@ from bench.histories import BEGIN, branchy, write
 from bench.live import Talk, talk_about
 from bench.measure import ATTEMPTS, Setup
 from bench.tables import Limited, Row, Table, Tables
-from dev.dumps import FILE, Revision, added, deleted
+from dev.dumps import FILE, Revision, added, copied, deleted
 
 REVISIONS, NAMES, BRANCHES = 100000, 100000, 200
 MOST_OF_ONE_REVISION, MOST_OF_ALL = 1.5, 2.4
 # Of how many deletions and additions of one path the history consists in which it has that many lives.
 LIVES = 20000
+# Of how many copies of a directory with a file the history consists.
+COPIES = 10000
 # The lines of a question about a history with this youngest revision, and a history by its size.
 Asking = Callable[[int], Sequence[bytes]]
 Shape = Callable[[int], Iterator[bytes]]
@@ -36,6 +38,11 @@ def alone(form: str) -> Asking:
     return lambda last: [form.format(last=last).encode()]
 
 
+def distances(last: int) -> Sequence[bytes]:
+    pegs = [b"trunk@%d" % last, b"", *(b"branches/b%d@%d" % (number, last) for number in range(BRANCHES))]
+    return [b"ask\tdistance\t" + b"\t".join(pegs)]
+
+
 MERGES: Asked = {
     "`holds` of one revision, for 200 branches": (of_branches("ask\tholds\t{}\t900:900"), MOST_OF_ONE_REVISION),
     "`holds` of all revisions, for the trunk": (alone("ask\tholds\ttrunk@{last}\t0:{last}"), MOST_OF_ALL),
@@ -46,10 +53,13 @@ MERGES: Asked = {
         MOST_OF_ONE_REVISION,
     ),
     "`explicit` of the root": (alone("ask\texplicit\t@{last}"), MOST_OF_ALL),
+    "`new` of two branches": (alone("ask\tnew\tbranches/b1@{last}\tbranches/b2@{last}"), MOST_OF_ALL),
+    "`distance` of 200 branches from the trunk": (distances, MOST_OF_ALL),
 }
 
 OF_NAMES = alone("ask\tlist\td@{last}"), MOST_OF_ALL
 OF_LIVES = alone("ask\tlives\td@{last}"), MOST_OF_ALL
+OF_COPIES = alone("ask\tdescendants\td/f@1\t{last}"), MOST_OF_ALL
 
 
 def wide(count: int) -> Iterator[bytes]:
@@ -62,6 +72,13 @@ def short_lives(count: int) -> Iterator[bytes]:
     """Yield a history in which a path is made and deleted so many times."""
     turns = [deleted(b"d"), added(b"d")]
     return chain([BEGIN], (bytes(Revision(rev, [turns[rev % 2]])) for rev in range(1, 2 * count + 1)))
+
+
+def copied_often(count: int) -> Iterator[bytes]:
+    """Yield a history in which a directory with a file is copied so many times."""
+    begin = [BEGIN, bytes(Revision(1, [added(b"d"), added(b"d/f", FILE), added(b"tags")]))]
+    copies = (bytes(Revision(rev, [copied(b"tags/%d" % rev, b"d", 1)])) for rev in range(2, count + 2))
+    return chain(begin, copies)
 
 
 def compared(talks: Sequence[Talk], lasts: Sequence[int], times: int, asking: Asking, most: float) -> Row:
@@ -88,6 +105,7 @@ def about(setup: Setup, shape: Shape, size: int, last_of: Callable[[int], int], 
 def rows(setup: Setup) -> Iterator[Row]:
     yield from about(setup, branchy, REVISIONS, lambda count: count, MERGES)
     yield from about(setup, wide, NAMES, lambda count: 2, {"`list` of many names": OF_NAMES})
+    yield from about(setup, copied_often, COPIES, lambda count: count + 1, {"`descendants` of a file": OF_COPIES})
     yield from about(setup, short_lives, LIVES, lambda count: 2 * count, {"`lives` of a path with many": OF_LIVES})
 
 
