@@ -1,12 +1,12 @@
 -- How a path holds each revision of a range, after all marks.
-use Rattle.std.proofs.Common.{◌≡◌, ◌∙◌, ℕ, zero, suc, ◌+◌, ◌≤◌, Bool, true, false, List, ◌∷◌, Option, None, Some, refl, sym, ap, ap₂, arith, length, map, replicate, if◌then◌else◌}
+use Rattle.std.proofs.Common.{◌≡◌, ◌∙◌, ℕ, zero, suc, ◌+◌, ◌≤◌, Bool, true, false, List, ◌∷◌, Option, None, Some, refl, sym, ap, ap₂, arith, map, replicate, if◌then◌else◌}
 use Rattle.std.specs.List.{range_with_len}
 use Rattle.merge_info.specs.Value.{MergeInfoValue}
 use Rattle.svn_path.specs.declared.names.NameId.{NameId}
 use Rattle.svn_dump.specs.Dump.{DumpValue, history_in_bytes}
 use Rattle.query_answer.specs.Repo.{peg_in_bytes, trees_in_bytes}
 use Rattle.query_answer.specs.declared.target.PathRev.{PathRev}
-use Rattle.branch_answer.specs.HeldRevisions.{AreBelow, AreHeldBy, AreRevisionsOf, below_mark, count_in, history_mark, holding_in, value_mark}
+use Rattle.branch_answer.specs.HeldRevisions.{AreBelow, AreHeldBy, below_mark, count_in, history_mark, holding_in, value_mark}
 use Rattle.branch_answer.specs.Holding as holding
 use Rattle.branch_answer.specs.Holding.{explicit_below, first_below, is_in_history, merged_or_below, value_holds}
 use Rattle.branch_answer.specs.KeptExplicit.{explicit_text}
@@ -17,15 +17,8 @@ use Rattle.branch_answer.specs.declared.holding.Holding.{Holding}
 use Rattle.branch_answer.specs.declared.holding.Holding.TheVariants.{InHistory, InPart, Merged, Not}
 use Rattle.branch_answer.specs.declared.holdings.Holdings.{Holdings}
 use Rattle.branch_answer.proofs.HeldBelow.{strength-below_mark, view-below_mark}
-use Rattle.branch_answer.proofs.Marks.{AreMarked-then, length-marked}
+use Rattle.branch_answer.proofs.Marks.{AreMarked-then}
 use Rattle.branch_answer.proofs.Strengths.{Not-stronger, stronger-one}
-
--- ---- the revisions
-
-pub AreRevisionsOf-marked : (dump : DumpValue) (old new : Holdings) (mark : Mark) → AreMarked old new mark → AreRevisionsOf dump old → AreRevisionsOf dump new
-AreRevisionsOf-marked dump old new mark are within some =
-    let same : length new.how.items ≡ length old.how.items = ap length are.how ∙ length-marked mark old.first old.how.items in
-    omega (arith, same, are.first, within (omega (arith, same, some)))
 
 -- ---- one revision
 

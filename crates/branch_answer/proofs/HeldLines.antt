@@ -13,7 +13,6 @@ use Rattle.svn_dump.specs.Record.{HistoryOfBytes}
 use Rattle.svn_dump.specs.Tree.{is_there}
 unfoldable use Rattle.svn_dump.specs.Tree.{entry_at}
 use Rattle.svn_path.specs.Components.{parts_of}
-use Rattle.svn_path.specs.declared.names.NameId.{NameId}
 use Rattle.merge_info.specs.CanonicalValue.{value_of}
 use Rattle.merge_info.specs.Value.{Entry, MergeInfoValue}
 use Rattle.range_list.specs.Rangelist.{inheritability_of}
@@ -25,10 +24,11 @@ use Rattle.query_answer.specs.Peg.{Peg}
 use Rattle.query_answer.specs.Repo.{peg_in_bytes, trees_in_bytes}
 use Rattle.query_answer.specs.declared.target.PathRev.{PathRev}
 use Rattle.branch_answer.specs.Explicit.{ExplicitTexts}
-use Rattle.branch_answer.specs.HeldRevisions.{AreHeldBy, count_in, holding_in}
-use Rattle.branch_answer.specs.Holding.{Holding, either_way, entry_has, explicit_below, in_part_below, held_in, held_line, held_lines, holding_of, in_history, is_in_history, merged_or_below, text_holds}
+use Rattle.branch_answer.specs.HeldRevisions.{count_in, holding_in}
+use Rattle.branch_answer.specs.Holding.{Holding, either_way, entry_has, explicit_below, in_part_below, held_line, held_lines, holding_of, in_history, is_in_history, merged_or_below, text_holds, those_held}
 unfoldable use Rattle.branch_answer.specs.Holding.{first_below, value_holds}
-use Rattle.branch_answer.specs.KeptHoldings.{held_text, holdings_text, texts_of}
+use Rattle.branch_answer.specs.KeptHolding.{holding_view}
+use Rattle.branch_answer.specs.KeptHoldings.{held_text, holdings_text}
 unfoldable use Rattle.branch_answer.specs.KeptHoldings.{held_from}
 use Rattle.branch_answer.specs.QuestionAnswer.{lines_text}
 use Rattle.branch_answer.specs.declared.holdings.Holdings.{Holdings}
@@ -77,7 +77,7 @@ module _ (history : HistoryOfBytes) (trees : TreesOfBytes) (rev : ℕ) (past : l
 
 module _ (how : ℕ → Option Holding) where
   -- what is held of a revision, with the revision
-  abbrev held : ℕ → Option (ℕ × Holding)
+  abbrev pub held : ℕ → Option (ℕ × Holding)
   held rev = option_map (λ each. (rev, each)) (how rev)
 
   one_line : (rev : ℕ) → lines_text (held_lines (cons_option (held rev) [])) ≡ held_text rev (how rev)
@@ -106,39 +106,43 @@ module _ (how : ℕ → Option Holding) where
 
 -- ---- of a range
 
-module _ (dump : DumpValue) (kept : IsDump dump) (at : PathRev) (value : MergeInfoValue) (range : ℕ × ℕ) where
-  holding_in-past : (rev : ℕ) → length dump.counts ≤ rev → holding_in dump at value rev ≡ None
+-- how many revisions the range has
+abbrev asked : ℕ × ℕ → ℕ
+asked range = range.1 + 1 - range.0
+
+-- the greatest of the range that the dump has
+abbrev pub newest_of : ℕ × ℕ → ℕ → ℕ
+newest_of range count = range.1 - (asked range - count)
+
+module _ (dump : DumpValue) (range : ℕ × ℕ) (how : ℕ → Option Holding) (none_past : (rev : ℕ) → length dump.counts ≤ rev → how rev ≡ None) where
+  -- the revisions of the range that the dump has are enough
+  pub those_held-counted : those_held how range ≡ filter_map (held how) (down_from (count_in dump range) (newest_of range (count_in dump range)))
+  those_held-counted =
+      let count = count_in dump range in
+      let past = asked range - count in
+      let rest = down_from count (range.1 - past) in
+      ap (filter_map (held how)) (down_from-append past count (asked range) range.1 (omega arith))
+      ∙ filter_map-append (held how) (down_from past range.1) rest
+      ∙ ap (λ front. front ++ filter_map (held how) rest)
+      (filter_map_down-none (held how) past range.1 (λ each to from. ap (option_map (λ one. (each, one))) (none_past each (omega (arith, to, from)))))
+
+  lines_of-counted : (count : ℕ) → count_in dump range ≡ count
+      → held_from range.0 (map how (range_with_len range.0 count)) ≡ lines_text (held_lines (filter_map (held how) (down_from count (newest_of range count))))
+  unfolding held_from
+  lines_of-counted zero is = refl
+  lines_of-counted (suc count) is = held_from-lines how range.0 (suc count) (newest_of range (suc count)) (omega (arith, is))
+
+  pub those_held-text : (below : List (List ℕ)) (holdings : Holdings) → holdings.first ≡ range.0
+      → map (holding_view below) holdings.how.items ≡ map how (range_with_len range.0 (count_in dump range))
+      → holdings_text below holdings.first holdings.how.items ≡ lines_text (held_lines (those_held how range))
+  those_held-text below holdings first are =
+      (λ i. held_from (first i) (are i)) ∙ lines_of-counted (count_in dump range) refl ∙ ap (λ all. lines_text (held_lines all)) (sym those_held-counted)
+
+-- ---- of a path
+
+module _ (dump : DumpValue) (kept : IsDump dump) (at : PathRev) (value : MergeInfoValue) where
+  pub holding_in-past : (rev : ℕ) → length dump.counts ≤ rev → holding_in dump at value rev ≡ None
   holding_in-past rev past =
       let history = history_in_bytes dump in
       let trees = trees_in_bytes dump in
       holding_of-past history trees rev (omega (arith, past, length-trees_in_bytes dump kept)) (peg_in_bytes dump at) value (explicit_below history trees (peg_in_bytes dump at))
-
-  abbrev asked : ℕ
-  asked = range.1 + 1 - range.0
-
-  abbrev found : ℕ → Option (ℕ × Holding)
-  found = held (holding_in dump at value)
-
-  -- the revisions of the range that the dump has are enough
-  held_in-counted : held_in (history_in_bytes dump) (trees_in_bytes dump) (peg_in_bytes dump at) value range
-      ≡ filter_map found (down_from (count_in dump range) (range.1 - (asked - count_in dump range)))
-  held_in-counted =
-      let count = count_in dump range in
-      let past = asked - count in
-      let rest = down_from count (range.1 - past) in
-      ap (filter_map found) (down_from-append past count asked range.1 (omega arith))
-      ∙ filter_map-append found (down_from past range.1) rest
-      ∙ ap (λ front. front ++ filter_map found rest)
-      (filter_map_down-none found past range.1 (λ each to from. ap (option_map (λ how. (each, how))) (holding_in-past each (omega (arith, to, from)))))
-
-  lines_of-counted : (count : ℕ) → count_in dump range ≡ count
-      → held_from range.0 (map (holding_in dump at value) (range_with_len range.0 count)) ≡ lines_text (held_lines (filter_map found (down_from count (range.1 - (asked - count)))))
-  unfolding held_from
-  lines_of-counted zero is = refl
-  lines_of-counted (suc count) is = held_from-lines (holding_in dump at value) range.0 (suc count) (range.1 - (asked - suc count)) (omega (arith, is))
-
-  pub held_in-text : (below : List (List NameId)) (holdings : Holdings) → AreHeldBy dump at value range below holdings
-      → holdings_text (texts_of dump.names below) holdings.first holdings.how.items
-      ≡ lines_text (held_lines (held_in (history_in_bytes dump) (trees_in_bytes dump) (peg_in_bytes dump at) value range))
-  held_in-text below holdings are =
-      (λ i. held_from (are.first i) (are.how i)) ∙ lines_of-counted (count_in dump range) refl ∙ ap (λ all. lines_text (held_lines all)) (sym held_in-counted)

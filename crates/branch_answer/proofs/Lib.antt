@@ -7,6 +7,7 @@ mod Children
 mod DescendantsFound
 mod DescendantsLaw
 mod DescendantsSorted
+mod DistanceTold
 mod EachOnce
 mod ExplicitSorted
 mod ExplicitTexts
@@ -18,8 +19,9 @@ mod HeldCells
 mod HeldEntries
 mod HeldHistory
 mod HeldLines
+mod HeldRuns
 mod HeldTexts
-mod HoldsTold
+mod HoldersTold
 mod Keeping
 mod LevelsWalked
 mod LifeMade
@@ -32,10 +34,16 @@ mod Located
 mod Marks
 mod Membership
 mod Moved
+mod NewCells
+mod NewCounted
+mod NewTold
+mod NothingNew
 mod OpenChildren
 mod OperativeFound
+mod OperativesKept
 mod Origins
 mod OwnValues
+mod Parted
 mod PathsBelow
 mod PlacesInOrder
 mod PlacesTaken

@@ -40,7 +40,7 @@ module _ (dump : DumpValue) (path : List NameId) where
   abbrev operative_below : ℕ → ℕ → List ℕ
   operative_below lo bound = passing_below (is_operative_in dump path) lo bound
 
-  operative_from_to-below : (lo hi : ℕ) → operative_from_to dump path lo hi ≡ operative_below lo (suc hi)
+  pub operative_from_to-below : (lo hi : ℕ) → operative_from_to dump path lo hi ≡ operative_below lo (suc hi)
   operative_from_to-below lo hi = let same : hi + 1 - lo ≡ suc hi - lo = omega arith in ap (λ n. filter (is_operative_in dump path) (down_from n hi)) same
 
   -- where nothing set the path, those are operative whose records name it

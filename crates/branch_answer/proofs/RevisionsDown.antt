@@ -1,6 +1,6 @@
 -- The revisions that pass a test, from a lowest one up to below a bound.
-use Rattle.std.proofs.Common.{◌≡◌, ◌∙◌, ℕ, ◌-◌, ◌<◌, ◌≤◌, ◌==◌, pred, Bool, true, false, not, List, [], ◌∷◌, ◌++◌, ap, arith, filter, length, refl}
-use Rattle.std.proofs.lemmas.List.Elements.{filter-append}
+use Rattle.std.proofs.Common.{◌≡◌, ◌∙◌, ℕ, zero, suc, ◌+◌, ◌-◌, ◌<◌, ◌≤◌, ◌==◌, pred, Bool, true, false, not, All, List, [], ◌∷◌, ◌++◌, ap, arith, filter, length, refl}
+use Rattle.std.proofs.lemmas.List.Elements.{All-cons, All-filter, filter-append}
 use Rattle.path_index.proofs.DownFrom.{down_from-append, filter_down-none, filter_down-same}
 use Rattle.path_index.specs.Operative.{down_from}
 
@@ -12,10 +12,22 @@ is_empty-one p n top one = ap (λ count. length (filter p (down_from count top))
     by true is = rw is refl
     by false is = rw is refl
 
+-- what is true of each of the numbers
+All-down_from : (P : ℕ → Type 0) (n top : ℕ) → n ≤ top + 1 → ((k : ℕ) → k ≤ top → top < k + n → P k) → All P (down_from n top)
+All-down_from P zero top few each = λ k d within. absurd (omega (arith, within))
+All-down_from P (suc n) top few each =
+    All-cons P top (down_from n (pred top)) (each top (omega arith) (omega arith))
+    (All-down_from P n (pred top) (omega (arith, few)) (λ k up within. each k (omega (arith, up)) (omega (arith, few, up, within))))
+
 module _ (p : ℕ → Bool) where
   -- the greatest first
   abbrev pub passing_below : ℕ → ℕ → List ℕ
   passing_below lo bound = filter p (down_from (bound - lo) (pred bound))
+
+  pub All-passing_below : (P : ℕ → Type 0) (lo bound : ℕ) → ((rev : ℕ) → lo ≤ rev → rev < bound → P rev) → All P (passing_below lo bound)
+  All-passing_below P lo bound each =
+      All-filter p P (down_from (bound - lo) (pred bound))
+      (All-down_from P (bound - lo) (pred bound) (omega arith) (λ k up within. each k (omega (arith, up, within)) (omega (arith, up, within))))
 
   pub passing_below-none : (lo bound : ℕ) → ((rev : ℕ) → lo ≤ rev → rev < bound → p rev ≡ false) → passing_below lo bound ≡ []
   passing_below-none lo bound fails =

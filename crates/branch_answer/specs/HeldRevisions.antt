@@ -11,7 +11,7 @@ use Rattle.query_answer.specs.declared.target.PathRev.{PathRev}
 use Rattle.query_answer.specs.declared.unanswered.Unanswered.{Unanswered}
 use Rattle.query_answer.specs.declared.unanswered.Unanswered.TheVariants.{Memory, Refused}
 use Rattle.branch_answer.specs.Explicit.{ExplicitTexts}
-use Rattle.branch_answer.specs.Holding.{Holding, entry_has, explicit_below, holding_of, is_in_history, text_holds, value_holds}
+use Rattle.branch_answer.specs.Holding.{Holding, entry_has, explicit_below, holding_at, is_in_history, text_holds, value_holds}
 use Rattle.branch_answer.specs.KeptExplicit.{HasOwnText, explicit_text}
 use Rattle.branch_answer.specs.KeptHolding.{holding_by, holding_view}
 use Rattle.branch_answer.specs.KeptHoldings.{Mark, texts_of}
@@ -20,10 +20,6 @@ use Rattle.branch_answer.specs.declared.holding.Holding.TheVariants.{Below, InHi
 use Rattle.branch_answer.specs.declared.holdings.Holdings.{Holdings}
 
 -- ---- the revisions
-
--- the dump has each of them
-abbrev pub AreRevisionsOf : DumpValue → Holdings → Type 0
-AreRevisionsOf dump holdings = 0 < length holdings.how.items → holdings.first + length holdings.how.items ≤ length dump.counts
 
 -- they begin with the range, and end with it or before
 pub record AreWithin (range : ℕ × ℕ) (holdings : Holdings) : Type 0 where
@@ -66,10 +62,7 @@ pub record AreBelow (dump : DumpValue) (at : PathRev) (paths : List (List NameId
 
 -- how a path holds a revision, given its effective value
 abbrev pub holding_in : DumpValue → PathRev → MergeInfoValue → ℕ → Option Holding
-holding_in dump at value rev =
-    let history = history_in_bytes dump in
-    let trees = trees_in_bytes dump in
-    holding_of history trees (peg_in_bytes dump at) value (explicit_below history trees (peg_in_bytes dump at)) rev
+holding_in dump at value rev = holding_at (history_in_bytes dump) (trees_in_bytes dump) (peg_in_bytes dump at) value rev
 
 -- how it holds each revision of the range that the dump has
 pub record AreHeldBy (dump : DumpValue) (at : PathRev) (value : MergeInfoValue) (range : ℕ × ℕ) (below : List (List NameId)) (holdings : Holdings) : Type 0 where

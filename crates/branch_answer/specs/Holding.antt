@@ -24,6 +24,10 @@ pub data Holding : Type 0 where
   -- mergeinfo of a path below has it; of several, this is the first
   in_part_below : List ℕ → Holding
 
+-- the revisions of a range of which something is held, the newest first, each with how
+abbrev pub those_held : (ℕ → Option Holding) → ℕ × ℕ → List (ℕ × Holding)
+those_held how range = filter_map (λ rev. option_map (λ each. (rev, each)) (how rev)) (down_from (range.1 + 1 - range.0) range.1)
+
 -- ---- what mergeinfo has
 
 -- a revision that two entries have is inheritable if it is in one of them
@@ -72,11 +76,13 @@ module _ (history : HistoryOfBytes) (trees : TreesOfBytes) where
   explicit_below peg =
       filter (λ each. not (bytes_eq each.0 (path_text peg.path))) (explicit_of (tree_of trees peg.rev) peg.path)
 
+  -- how a peg holds a revision, given its effective value
+  abbrev pub holding_at : Peg → MergeInfoValue → ℕ → Option Holding
+  holding_at peg value rev = holding_of peg value (explicit_below peg) rev
+
   -- each revision of a range that it holds, the newest first, with how
   abbrev pub held_in : Peg → MergeInfoValue → ℕ × ℕ → List (ℕ × Holding)
-  held_in peg value range =
-      filter_map (λ rev. option_map (λ how. (rev, how)) (holding_of peg value (explicit_below peg) rev))
-      (down_from (range.1 + 1 - range.0) range.1)
+  held_in peg value range = those_held (holding_at peg value) range
 
 -- ---- lines
 

@@ -12,10 +12,13 @@ pub mod KeptExplicit
 pub mod KeptHolding
 pub mod KeptHoldings
 pub mod KeptLife
+pub mod KeptNew
+pub mod KeptOperatives
 pub mod Life
 pub mod Listing
 pub mod LivesLaw
 pub mod Moves
+pub mod NewRevisions
 pub mod Operative
 pub mod Presence
 pub mod Question

@@ -5,16 +5,17 @@ ghost use Rattle.svn_path.specs.Path.{IsPathOf};
 ghost use Rattle.merge_info.specs.Value.{entry_view};
 ghost use Rattle.query_answer.specs.Repo.{IsPathIn, effective_in};
 ghost use Rattle.query_answer.specs.Worker.{IsSeenOf};
-ghost use Rattle.branch_answer.specs.HeldRevisions.{AreBelow, AreHeldBy, AreRevisionsOf, AreWithin, IsValueRefused, below_mark, entry_mark, history_mark, text_mark, value_mark};
+ghost use Rattle.branch_answer.specs.HeldRevisions.{AreBelow, AreHeldBy, AreWithin, IsValueRefused, below_mark, entry_mark, history_mark, text_mark, value_mark};
 ghost use Rattle.branch_answer.specs.KeptExplicit.{HasOwnText, explicit_text};
 ghost use Rattle.branch_answer.specs.KeptHolding.{Overrides};
 ghost use Rattle.branch_answer.specs.KeptHoldings.{AreMarked};
+ghost use Rattle.branch_answer.specs.KeptOperatives.{AreOperativesFor, AreOperativesIn};
 ghost use Rattle.branch_answer.specs.declared.holding.Holding.TheVariants.{Below};
 
 use crate::explicit::explicit_of;
 use crate::holding::Holding;
 use crate::holdings::Holdings;
-use crate::operative::operative_on;
+use crate::operatives::Operatives;
 use merge_info::{Entry, MergeInfo};
 use path_index::RevisionRange;
 use query_answer::inheritance::effective;
@@ -34,11 +35,14 @@ pub(crate) fn holdings_of<'r>(
     below: &[Path],
     memo: &Memo<'r>,
     seen: &mut Seen<'r>,
+    operatives: &mut Operatives,
 ) -> Result<Holdings, AllocError>
     requires place { IsPathIn repo.now at.now }
     requires below { AreBelow repo.now at.now below.now }
     requires seen { IsSeenOf repo.now.values memo.now seen.old }
+    requires operatives { AreOperativesIn repo.now range operatives.old }
     ensures seen { IsSeenOf repo.now.values memo.now seen.new }
+    ensures operatives { AreOperativesIn repo.now range operatives.new }
     ensures held { IfOk result (AreHeldBy repo.now at.now value.now range below.now) }
 {
     let mut holdings = Holdings::new(alloc, range.0, range.1.min(repo.youngest()))?;
@@ -49,9 +53,19 @@ pub(crate) fn holdings_of<'r>(
         value,
         Holding::Merged,
         Holding::InPart,
+        operatives,
         &mut holdings,
     )?;
-    mark_all_below(alloc, repo, at.rev, below, memo, seen, &mut holdings)?;
+    mark_all_below(
+        alloc,
+        repo,
+        at.rev,
+        below,
+        memo,
+        seen,
+        operatives,
+        &mut holdings,
+    )?;
     Ok(holdings)
 }
 
@@ -78,15 +92,17 @@ fn mark_value(
     value: &MergeInfo,
     whole: Holding,
     part: Holding,
+    operatives: &mut Operatives,
     holdings: &mut Holdings,
 ) -> Result<(), AllocError>
     requires kept { IsDump repo.now }
-    requires within { AreRevisionsOf repo.now holdings.old }
+    requires operatives { AreOperativesFor repo.now holdings.old operatives.old }
     requires overrides { Overrides whole part }
-    ensures { OnOk result (AreMarked holdings.old holdings.new (value_mark repo.now whole part value.now)) }
+    ensures operatives { AreOperativesFor repo.now holdings.old operatives.new }
+    ensures marked { OnOk result (AreMarked holdings.old holdings.new (value_mark repo.now whole part value.now)) }
 {
     for entry in value.entries() {
-        mark_entry(alloc, repo, entry, whole, part, holdings)?;
+        mark_entry(alloc, repo, entry, whole, part, operatives, holdings)?;
     }
     Ok(())
 }
@@ -98,11 +114,13 @@ fn mark_entry(
     entry: &Entry,
     whole: Holding,
     part: Holding,
+    operatives: &mut Operatives,
     holdings: &mut Holdings,
 ) -> Result<(), AllocError>
     requires kept { IsDump repo.now }
-    requires within { AreRevisionsOf repo.now holdings.old }
-    ensures { OnOk result (AreMarked holdings.old holdings.new
+    requires operatives { AreOperativesFor repo.now holdings.old operatives.old }
+    ensures operatives { AreOperativesFor repo.now holdings.old operatives.new }
+    ensures marked { OnOk result (AreMarked holdings.old holdings.new
         (entry_mark repo.now whole part (entry_view entry.now))) }
 {
     let Some((lo, hi)) = holdings.part(&entry.ranges) else {
@@ -111,8 +129,9 @@ fn mark_entry(
     let Some(path) = repo.path_named(alloc, &entry.path)? else {
         return Ok(());
     };
-    let revs = operative_on(alloc, repo, &path, lo, hi)?;
-    holdings.mark_merged(&revs, &entry.ranges, whole, part);
+    operatives.look_up(alloc, repo, &path)?;
+    let revs = operatives.on(&path, lo, hi);
+    holdings.mark_merged(revs, &entry.ranges, whole, part);
     Ok(())
 }
 
@@ -124,14 +143,16 @@ fn mark_all_below<'r>(
     below: &[Path],
     memo: &Memo<'r>,
     seen: &mut Seen<'r>,
+    operatives: &mut Operatives,
     holdings: &mut Holdings,
 ) -> Result<(), AllocError>
     requires kept { IsDump repo.now }
     requires of_names { All (IsPathOf repo.now.names) below.now }
     requires own { All (HasOwnText repo.now rev) below.now }
-    requires within { AreRevisionsOf repo.now holdings.old }
+    requires operatives { AreOperativesFor repo.now holdings.old operatives.old }
     requires seen { IsSeenOf repo.now.values memo.now seen.old }
     ensures seen { IsSeenOf repo.now.values memo.now seen.new }
+    ensures operatives { AreOperativesFor repo.now holdings.old operatives.new }
     ensures marked { OnOk result (AreMarked holdings.old holdings.new
         (below_mark repo.now 0 (map (explicit_text repo.now rev) below.now))) }
 {
@@ -139,7 +160,9 @@ fn mark_all_below<'r>(
         let Ok(index) = u32::try_from(index) else {
             return Err(AllocError);
         };
-        mark_below(alloc, repo, rev, path, index, memo, seen, holdings)?;
+        mark_below(
+            alloc, repo, rev, path, index, memo, seen, operatives, holdings,
+        )?;
     }
     Ok(())
 }
@@ -153,21 +176,23 @@ fn mark_below<'r>(
     index: u32,
     memo: &Memo<'r>,
     seen: &mut Seen<'r>,
+    operatives: &mut Operatives,
     holdings: &mut Holdings,
 ) -> Result<(), AllocError>
     requires kept { IsDump repo.now }
     requires of_names { IsPathOf repo.now.names path.now }
     requires own { HasOwnText repo.now rev path.now }
-    requires within { AreRevisionsOf repo.now holdings.old }
+    requires operatives { AreOperativesFor repo.now holdings.old operatives.old }
     requires seen { IsSeenOf repo.now.values memo.now seen.old }
     ensures seen { IsSeenOf repo.now.values memo.now seen.new }
+    ensures operatives { AreOperativesFor repo.now holdings.old operatives.new }
     ensures marked { OnOk result (AreMarked holdings.old holdings.new
         (text_mark repo.now (Below index) (explicit_text repo.now rev path.now).1)) }
 {
     let how = Holding::Below(index);
     match effective(alloc, repo, path, rev, memo, seen)? {
         Effective::Malformed => Ok(()),
-        Effective::Value(value) => mark_value(alloc, repo, &value, how, how, holdings),
+        Effective::Value(value) => mark_value(alloc, repo, &value, how, how, operatives, holdings),
     }
 }
 

@@ -1,6 +1,7 @@
 //! How a path holds a revision.
 ghost use Rattle.std.specs.Prelude.{◌≡◌};
 ghost use Rattle.branch_answer.specs.KeptHolding.{holding_by, strength, stronger};
+ghost use Rattle.branch_answer.specs.KeptNew.{kept_extent, new_cell};
 
 /// How a path holds a revision. Each is stronger than the one before it.
 #[derive(Clone, Copy, Debug, PartialEq, Eq)]
@@ -39,6 +40,24 @@ impl Holding {
             Holding::InPart => 2,
             Holding::Merged => 3,
             Holding::InHistory => 4,
+        }
+    }
+
+    /// A greater number where more of the revision is held.
+    pub(crate) fn extent(self) -> u8
+        ensures { result ≡ kept_extent self }
+    {
+        self.strength().min(3)
+    }
+
+    /// This one, if more of the revision is held so than in another way, unless the revision doesn't count.
+    pub(crate) fn beyond(self, one: Holding, is_uncounted: bool) -> Holding
+        ensures { result ≡ new_cell is_uncounted one self }
+    {
+        if is_uncounted || self.extent() <= one.extent() {
+            Holding::Not
+        } else {
+            self
         }
     }
 

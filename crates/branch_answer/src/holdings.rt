@@ -1,20 +1,22 @@
 //! How a path holds neighbouring revisions.
-ghost use Rattle.std.specs.Prelude.{◌≡◌, ◌+◌, ◌-◌, [], ◌∷◌, ◌++◌, All, IfOk, IfSome, OnOk, Some, codes, decimal, replicate};
+ghost use Rattle.std.specs.Prelude.{◌≡◌, ◌+◌, ◌-◌, [], ◌∷◌, ◌++◌, All, IfOk, IfSome, OnOk, Some, codes, decimal, length, map, replicate};
 ghost use Rattle.svn_text.specs.Line.{line_text};
 ghost use Rattle.svn_path.specs.Components.{path_text};
 ghost use Rattle.svn_path.specs.Path.{IsPathOf, components_of};
-ghost use Rattle.range_list.specs.Rangelist.{inheritability_of};
+ghost use Rattle.range_list.specs.Canonical.{run_of_one};
+ghost use Rattle.range_list.specs.Rangelist.{IsRun, inheritability_of};
 ghost use Rattle.branch_answer.specs.Holding.{in_part_below};
 ghost use Rattle.branch_answer.specs.KeptHolding.{holding_by, holding_view};
 ghost use Rattle.branch_answer.specs.KeptHoldings.{AreMarked, HoldsRuns, IsPartOf, held_text, holdings_text, mark_of, texts_of};
+ghost use Rattle.branch_answer.specs.KeptNew.{AreNewOnly, AreNumbers, held_run, held_runs_from};
 ghost use Rattle.branch_answer.specs.declared.holding.Holding.TheVariants.{Not};
 
 use crate::holding::Holding;
 use path_index::RevisionRange;
-use range_list::Ranges;
+use range_list::{Ranges, Run};
 use std::alloc::{AllocError, Global};
 use svn_path::{Names, Path};
-use svn_text::push_number;
+use svn_text::{GREATEST_REVISION, push_number};
 
 /// How a path holds the revisions from `first` on, of which there are as many as `how` has elements.
 #[derive(Drop)]
@@ -109,6 +111,62 @@ impl Holdings {
         }
         Ok(())
     }
+
+    /// Keeps those of which more is held than by `one`, but for those of the ranges.
+    pub(crate) fn keep_new(&mut self, one: &Holdings, uncounted: &Ranges)
+        requires same { length one.now.how.items ≡ length self.old.how.items }
+        requires numbers { AreNumbers self.old }
+        ensures { AreNewOnly one.now uncounted.now self.old self.new }
+    {
+        for index in 0..self.how.len() {
+            let rev = self.first + index as u32;
+            self.how[index] = self.how[index].beyond(one.how[index], uncounted.has(rev).is_some());
+        }
+    }
+
+    /// Those that are held, each as a run that is inheritable where all of the revision is held.
+    pub(crate) fn runs(&self, alloc: Global) -> Result<Vec<Run>, AllocError>
+        requires { AreNumbers self.now }
+        ensures runs { IfOk result (λ runs. All IsRun runs.items) }
+        ensures held { IfOk result (λ runs. runs.items
+            ≡ held_runs_from self.now.first (map (holding_view []) self.now.how.items)) }
+    {
+        let mut runs = Vec::new(alloc);
+        for (index, how) in self.how.iter().enumerate() {
+            push_held(self.first + index as u32, *how, &mut runs)?;
+        }
+        Ok(runs)
+    }
+}
+
+/// Pushes the run of a revision, if it is held.
+fn push_held(rev: u32, how: Holding, runs: &mut Vec<Run>) -> Result<(), AllocError>
+    ensures run { OnOk result (All IsRun (held_run rev (holding_view [] how))) }
+    ensures held { OnOk result (runs.new.items ≡ runs.old.items ++ held_run rev (holding_view [] how)) }
+{
+    match how {
+        Holding::Not => Ok(()),
+        Holding::Below(_) => push_run(rev, false, runs),
+        Holding::InPart => push_run(rev, false, runs),
+        Holding::Merged => push_run(rev, true, runs),
+        Holding::InHistory => push_run(rev, true, runs),
+    }
+}
+
+/// Pushes the run of a revision. There is none of 0, which no path holds, nor of one above the greatest revision.
+fn push_run(rev: u32, inheritable: bool, runs: &mut Vec<Run>) -> Result<(), AllocError>
+    ensures run { OnOk result (IsRun (run_of_one rev inheritable)) }
+    ensures held { OnOk result (runs.new.items ≡ runs.old.items ++ run_of_one rev inheritable ∷ []) }
+{
+    if rev == 0 || u64::from(rev) > GREATEST_REVISION {
+        return Err(AllocError);
+    }
+    runs.push(Run {
+        lo: rev,
+        hi: rev,
+        inheritable,
+    })?;
+    Ok(())
 }
 
 /// Appends the line of a revision, if it is held.

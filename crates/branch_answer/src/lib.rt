@@ -12,6 +12,7 @@
 #![tactic(auto)]
 
 mod answer;
+mod counted;
 mod descendants;
 mod explicit;
 mod held_revisions;
@@ -20,12 +21,14 @@ mod holdings;
 mod kind;
 mod life;
 mod moves;
+mod new_revisions;
 mod operative;
+mod operatives;
 mod presence;
 mod question;
 mod questions;
 mod text_order;
 
 pub use answer::Answer;
-pub use question::Question;
+pub use question::{Comparison, Question};
 pub use questions::answer_question;

@@ -1,20 +1,24 @@
 //! The questions, each in a file of its own.
 ghost use Rattle.std.specs.Prelude.{◌≡◌, [], IfErr, IfOk, OnOk};
+ghost use Rattle.svn_dump.specs.Dump.{history_in_bytes};
 ghost use Rattle.query_answer.specs.Repo.{trees_in_bytes};
 ghost use Rattle.query_answer.specs.Worker.{IsSeenOf};
 ghost use Rattle.branch_answer.specs.DescendantsLaw.{HaveDescendants};
 ghost use Rattle.branch_answer.specs.LivesLaw.{HaveLives};
+ghost use Rattle.branch_answer.specs.NewRevisions.{NothingIsNew};
 ghost use Rattle.branch_answer.specs.Question.{question_view};
 ghost use Rattle.branch_answer.specs.QuestionAnswer.{kept_answer, question_answer_in};
 ghost use Rattle.branch_answer.specs.Told.{IsUntold, TellsLines};
 
 mod ancestor;
 mod descendants;
+mod distance;
 mod entry;
 mod explicit;
 mod holds;
 mod list;
 mod lives;
+mod new;
 
 use crate::answer::Answer;
 use crate::question::Question;
@@ -38,8 +42,10 @@ pub fn answer_question<'r>(
         (λ answer. answer ≡ kept_answer (question_answer_in repo.now (question_view question.now))) }
     // The lives of each path share no revision, and are all in which it is there.
     ensures lives { HaveLives (trees_in_bytes repo.now) }
-    // The descendants of a peg are the paths that were located at its place.
+    // The descendants of a path are the paths that were located there, and no others.
     ensures descendants { HaveDescendants (trees_in_bytes repo.now) }
+    // Nothing is new between a path and itself.
+    ensures new { NothingIsNew (history_in_bytes repo.now) (trees_in_bytes repo.now) }
 {
     let mut text = Vec::new(alloc);
     match append_lines(alloc, repo, question, memo, seen, &mut text) {
@@ -79,6 +85,20 @@ fn append_lines<'r>(
         Question::Ancestor { of, other } => ancestor::append_ancestor(alloc, repo, of, other, out),
         Question::Holds { of, range } => {
             holds::append_holds(alloc, repo, of, *range, memo, seen, out)
+        }
+        Question::New { comparison } => {
+            new::append_new(alloc, repo, comparison, memo, seen, out)
+        }
+        Question::NewRanges { comparison } => {
+            new::append_new_ranges(alloc, repo, comparison, memo, seen, out)
+        }
+        Question::Distance {
+            from,
+            uncounted,
+            to,
+        } => distance::append_distance(alloc, repo, from, uncounted, to, memo, seen, out),
+        Question::Descendants { of, rev } => {
+            descendants::append_descendants(alloc, repo, of, *rev, out)
         }
     }
 }

@@ -7,7 +7,8 @@ ghost use Rattle.query_answer.specs.Worker.{IsSeenOf};
 ghost use Rattle.branch_answer.specs.QuestionAnswer.{holds_answer};
 ghost use Rattle.branch_answer.specs.Told.{IsUntold, TellsLines};
 
-use crate::held_revisions::{holdings_of, paths_below, value_at};
+use crate::new_revisions::Held;
+use crate::operatives::Operatives;
 use path_index::RevisionRange;
 use query_answer::{Peg, Repo, Unanswered};
 use std::alloc::Global;
@@ -30,10 +31,8 @@ pub(crate) fn append_holds<'r>(
     ensures none { IfErr result (IsUntold (holds_answer (history_in_bytes repo.now) (trees_in_bytes repo.now)
         (peg_view peg.now) range)) }
 {
-    let at = repo.find(alloc, peg)?;
-    let value = value_at(alloc, repo, &at, memo, seen)?;
-    let below = paths_below(alloc, repo, &at)?;
-    let holdings = holdings_of(alloc, repo, &at, range, &value, &below, memo, seen)?;
-    holdings.append(repo.names(), &below, out)?;
+    let mut operatives = Operatives::new(alloc, repo, range);
+    let held = Held::find(alloc, repo, peg, range, memo, seen, &mut operatives)?;
+    held.holdings.append(repo.names(), &held.below, out)?;
     Ok(())
 }

@@ -6,8 +6,8 @@ use Rattle.branch_answer.specs.KeptExplicit.{HasOwnText, explicit_text}
 use Rattle.branch_answer.specs.KeptHolding.{stronger}
 use Rattle.branch_answer.specs.declared.holding.Holding.TheVariants.{Below, Not}
 use Rattle.branch_answer.proofs.HeldBelow.{below_mark-nil, below_mark-push}
-use Rattle.branch_answer.proofs.HeldCells.{AreRevisionsOf-marked}
 use Rattle.branch_answer.proofs.Marks.{AreMarked-none, AreMarked-same, AreMarked-then}
+use Rattle.branch_answer.proofs.OperativesKept.{AreOperativesFor-before, AreOperativesFor-marked}
 use Rattle.branch_answer.proofs.held_revisions.mark_all_below.Goals as goal
 
 pub loop-index-init : goal.loop-index-init
@@ -15,6 +15,7 @@ loop-index-init c =
     let old = c.args.holdings.now in
     record {
       seen = c.requires.seen;
+      operatives = c.requires.operatives;
       marked = AreMarked-same old old (λ _. Not) (below_mark c.args.repo.now 0 []) (AreMarked-none old) (λ each among. sym (below_mark-nil c.args.repo.now 0 each));
     }
 
@@ -22,11 +23,11 @@ pub mark_below-requires-clause-own : goal.mark_below-requires-clause-own
 mark_below-requires-clause-own c =
     subst (HasOwnText c.args.repo.now c.args.rev) (sym c.index-below-index.is) (c.requires.own c.loop-index.index c.index-below-index.result c.loop-index-test.true)
 
-pub mark_below-requires-clause-within : goal.mark_below-requires-clause-within
-mark_below-requires-clause-within c =
-    AreRevisionsOf-marked c.args.repo.now c.args.holdings.now c.loop-index.holdings
+pub mark_below-requires-clause-operatives : goal.mark_below-requires-clause-operatives
+mark_below-requires-clause-operatives c =
+    AreOperativesFor-marked c.args.repo.now c.args.holdings.now c.loop-index.holdings
     (below_mark c.args.repo.now 0 (map (explicit_text c.args.repo.now c.args.rev) (take c.loop-index.index c.args.below.now)))
-    c.loop-index.invariant.marked c.requires.within
+    c.loop-index.operatives c.loop-index.invariant.marked c.loop-index.invariant.operatives
 
 pub loop-index-preserved : goal.loop-index-preserved
 loop-index-preserved c =
@@ -43,12 +44,20 @@ loop-index-preserved c =
     omega (arith, c.in-Ok.ensures.1, length-map (take i below) explicit, length-take-le i below (omega (arith, c.loop-index-test.true))) in
     record {
       seen = c.in_ok-mark_below.ensures.seen;
+      operatives = AreOperativesFor-before dump old c.loop-index.holdings (below_mark dump 0 before) c.mark_below.new.operatives c.loop-index.invariant.marked
+          c.in_ok-mark_below.ensures.operatives;
       marked = AreMarked-same old c.mark_below.new.holdings
           (λ each. stronger (below_mark dump 0 before each) (text_mark dump (Below c.in-Ok.index) (explicit path).1 each)) (below_mark dump 0 (map explicit (take (i + 1) below)))
           (AreMarked-then old c.loop-index.holdings c.mark_below.new.holdings (below_mark dump 0 before) (text_mark dump (Below c.in-Ok.index) (explicit path).1)
           c.loop-index.invariant.marked c.in_ok-mark_below.ensures.marked)
           (λ each among. below_mark-push dump 0 before (explicit path) c.in-Ok.index each last ∙ ap (λ texts. below_mark dump 0 texts each) (sym more));
     }
+
+pub returns-in_err-mark_below-clause-operatives : goal.returns-in_err-mark_below-clause-operatives
+returns-in_err-mark_below-clause-operatives c =
+    AreOperativesFor-before c.args.repo.now c.args.holdings.now c.loop-index.holdings
+    (below_mark c.args.repo.now 0 (map (explicit_text c.args.repo.now c.args.rev) (take c.loop-index.index c.args.below.now)))
+    c.mark_below.new.operatives c.loop-index.invariant.marked c.in_err-mark_below.ensures.operatives
 
 pub returns-clause-marked : goal.returns-clause-marked
 returns-clause-marked c =

@@ -30,4 +30,4 @@ returns-in-Value-clause-marked c =
     sym (effective_in-own dump c.args.path.now c.args.rev c.requires.own) ∙ sym c.in_ok-effective.ensures.value ∙ ap effective_view c.in-Value.is in
     on_ok_weaker c.mark_value.result
     (λ are. AreMarked-same old c.mark_value.new.holdings (value_mark dump how how c.in-Value.value) (text_mark dump how text) are (λ each among. sym (text_mark-value dump how text c.in-Value.value some each)))
-    c.mark_value.ensures
+    c.mark_value.ensures.marked

@@ -1,12 +1,14 @@
 use Rattle.std.proofs.Common.{◌∙◌, ap, subst, sym}
 use Rattle.std.specs.Prelude.{IfErr, OnOk}
+use Rattle.std.specs.List.{slice_split}
 use Rattle.svn_dump.specs.Dump.{history_in_bytes}
 use Rattle.query_answer.specs.Peg.{peg_view}
+use Rattle.query_answer.specs.Query.{is_tab}
 use Rattle.query_answer.specs.Repo.{trees_in_bytes}
-use Rattle.branch_answer.specs.Question.{question_view}
+use Rattle.branch_answer.specs.Question.{comparison_view, question_view}
 use Rattle.branch_answer.specs.QuestionAnswer.{question_answer_in}
 use Rattle.branch_answer.specs.Told.{IsUntold, TellsLines}
-use Rattle.branch_answer.proofs.Asked.{question_answer-ancestor, question_answer-bad, question_answer-entry, question_answer-explicit, question_answer-holds, question_answer-list, question_answer-lives}
+use Rattle.branch_answer.proofs.Asked.{question_answer-ancestor, question_answer-bad, question_answer-descendants, question_answer-distance, question_answer-entry, question_answer-explicit, question_answer-holds, question_answer-list, question_answer-lives, question_answer-new, question_answer-new_ranges}
 use Rattle.branch_answer.proofs.questions.append_lines.Goals as goal
 
 pub returns-in-Bad-clause-none : goal.returns-in-Bad-clause-none
@@ -97,3 +99,59 @@ returns-in-Holds-clause-none c =
     subst (λ answer. IfErr c.append_holds.result (IsUntold answer))
     (sym (ap (λ each. question_answer_in dump (question_view each)) c.in-Holds.is ∙ question_answer-holds (history_in_bytes dump) (trees_in_bytes dump) (peg_view c.in-Holds.of) c.in-Holds.range))
     c.append_holds.ensures.none
+
+pub returns-in-New-clause-lines : goal.returns-in-New-clause-lines
+returns-in-New-clause-lines c =
+    let dump = c.args.repo.now in
+    subst (λ answer. OnOk c.append_new.result (TellsLines answer c.args.out.now.items c.append_new.new.out.items))
+    (sym (ap (λ each. question_answer_in dump (question_view each)) c.in-New.is ∙ question_answer-new (history_in_bytes dump) (trees_in_bytes dump) (comparison_view c.in-New.comparison)))
+    c.append_new.ensures.lines
+
+pub returns-in-New-clause-none : goal.returns-in-New-clause-none
+returns-in-New-clause-none c =
+    let dump = c.args.repo.now in
+    subst (λ answer. IfErr c.append_new.result (IsUntold answer))
+    (sym (ap (λ each. question_answer_in dump (question_view each)) c.in-New.is ∙ question_answer-new (history_in_bytes dump) (trees_in_bytes dump) (comparison_view c.in-New.comparison)))
+    c.append_new.ensures.none
+
+pub returns-in-NewRanges-clause-lines : goal.returns-in-NewRanges-clause-lines
+returns-in-NewRanges-clause-lines c =
+    let dump = c.args.repo.now in
+    subst (λ answer. OnOk c.append_new_ranges.result (TellsLines answer c.args.out.now.items c.append_new_ranges.new.out.items))
+    (sym (ap (λ each. question_answer_in dump (question_view each)) c.in-NewRanges.is ∙ question_answer-new_ranges (history_in_bytes dump) (trees_in_bytes dump) (comparison_view c.in-NewRanges.comparison)))
+    c.append_new_ranges.ensures.lines
+
+pub returns-in-NewRanges-clause-none : goal.returns-in-NewRanges-clause-none
+returns-in-NewRanges-clause-none c =
+    let dump = c.args.repo.now in
+    subst (λ answer. IfErr c.append_new_ranges.result (IsUntold answer))
+    (sym (ap (λ each. question_answer_in dump (question_view each)) c.in-NewRanges.is ∙ question_answer-new_ranges (history_in_bytes dump) (trees_in_bytes dump) (comparison_view c.in-NewRanges.comparison)))
+    c.append_new_ranges.ensures.none
+
+pub returns-in-Distance-clause-lines : goal.returns-in-Distance-clause-lines
+returns-in-Distance-clause-lines c =
+    let dump = c.args.repo.now in
+    subst (λ answer. OnOk c.append_distance.result (TellsLines answer c.args.out.now.items c.append_distance.new.out.items))
+    (sym (ap (λ each. question_answer_in dump (question_view each)) c.in-Distance.is ∙ question_answer-distance (history_in_bytes dump) (trees_in_bytes dump) (peg_view c.in-Distance.from) c.in-Distance.uncounted.now (slice_split is_tab c.in-Distance.to.now)))
+    c.append_distance.ensures.lines
+
+pub returns-in-Distance-clause-none : goal.returns-in-Distance-clause-none
+returns-in-Distance-clause-none c =
+    let dump = c.args.repo.now in
+    subst (λ answer. IfErr c.append_distance.result (IsUntold answer))
+    (sym (ap (λ each. question_answer_in dump (question_view each)) c.in-Distance.is ∙ question_answer-distance (history_in_bytes dump) (trees_in_bytes dump) (peg_view c.in-Distance.from) c.in-Distance.uncounted.now (slice_split is_tab c.in-Distance.to.now)))
+    c.append_distance.ensures.none
+
+pub returns-in-Descendants-clause-lines : goal.returns-in-Descendants-clause-lines
+returns-in-Descendants-clause-lines c =
+    let dump = c.args.repo.now in
+    subst (λ answer. OnOk c.append_descendants.result (TellsLines answer c.args.out.now.items c.append_descendants.new.out.items))
+    (sym (ap (λ each. question_answer_in dump (question_view each)) c.in-Descendants.is ∙ question_answer-descendants (history_in_bytes dump) (trees_in_bytes dump) (peg_view c.in-Descendants.of) c.in-Descendants.rev))
+    c.append_descendants.ensures.lines
+
+pub returns-in-Descendants-clause-none : goal.returns-in-Descendants-clause-none
+returns-in-Descendants-clause-none c =
+    let dump = c.args.repo.now in
+    subst (λ answer. IfErr c.append_descendants.result (IsUntold answer))
+    (sym (ap (λ each. question_answer_in dump (question_view each)) c.in-Descendants.is ∙ question_answer-descendants (history_in_bytes dump) (trees_in_bytes dump) (peg_view c.in-Descendants.of) c.in-Descendants.rev))
+    c.append_descendants.ensures.none

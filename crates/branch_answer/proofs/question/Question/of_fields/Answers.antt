@@ -1,7 +1,7 @@
 use Rattle.std.proofs.Common.{◌∙◌, ◌∷◌, ap, sym}
 use Rattle.query_answer.specs.Query.{is_tab}
 use Rattle.query_answer.proofs.Queries.{one_field, slice_split-some, split-cut, three_fields, two_fields}
-use Rattle.branch_answer.specs.Question.{question_of_fields}
+use Rattle.branch_answer.specs.Question.{question_of_fields, question_of_more}
 use Rattle.branch_answer.proofs.question.Question.of_fields.Goals as goal
 
 pub returns-in_default : goal.returns-in_default
@@ -17,10 +17,13 @@ returns-in-None c =
 
 pub returns-in-Some-split_at_byte-2 : goal.returns-in-Some-split_at_byte-2
 returns-in-Some-split_at_byte-2 c =
-    let (field, fields, same) = slice_split-some is_tab c.in-Some-split_at_byte-2.field-0.1.now in
-    sym (ap question_of_fields
+    let verb = c.in-Some.verb.now in
+    let peg = c.in-Some-split_at_byte.peg.now in
+    let field = c.in-Some-split_at_byte-2.field.now in
+    let (next, fields, same) = slice_split-some is_tab c.in-Some-split_at_byte-2.more.now in
+    c.of_more.ensures
+    ∙ ap (question_of_more verb peg field) same
+    ∙ sym (ap question_of_fields
     (split-cut c.in-Some.ensures
-    ∙ ap (λ all. c.in-Some.verb.now ∷ all)
-    (split-cut c.in-Some-split_at_byte.ensures
-    ∙ ap (λ all. c.in-Some-split_at_byte.peg.now ∷ all)
-    (split-cut c.in-Some-split_at_byte-2.ensures ∙ ap (λ all. c.in-Some-split_at_byte-2.field-0.0.now ∷ all) same))))
+    ∙ ap (λ all. verb ∷ all)
+    (split-cut c.in-Some-split_at_byte.ensures ∙ ap (λ all. peg ∷ all) (split-cut c.in-Some-split_at_byte-2.ensures ∙ ap (λ all. field ∷ all) same))))
