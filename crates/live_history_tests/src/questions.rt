@@ -68,6 +68,36 @@ fn questions_about_merges_are_replied_to(rt: HostRuntime) -> Result<(), Fail> {
     Ok(())
 }
 
+const ABOUT_BRANCHES: &[u8] =
+    b"ask\tnew\tbranches/b@10\ttrunk@10\t0:6\nask\tnew-ranges\tbranches/b@10\ttrunk@10
+ask\tdistance\tbranches/b@10\t7\ttrunk@10\nask\tdescendants\ttrunk@1\t10\n";
+
+const SAID_OF_BRANCHES: &str = "ready 10
+
+#1 ok
+6 history
+3 history
+
+#2 ok
+3,6-8
+
+#3 ok
+3 2
+
+#4 ok
+/branches/b
+/trunk
+
+";
+
+#[test]
+fn questions_about_two_branches_are_replied_to(rt: HostRuntime) -> Result<(), Fail> {
+    let (said, ended) = Host::usual().talk(&rt, rt.alloc(), MERGED, ABOUT_BRANCHES);
+    ended?;
+    assert_eq!(rt; said.as_slice(), SAID_OF_BRANCHES.as_bytes());
+    Ok(())
+}
+
 /// A worker that knows nothing of a memo yet.
 fn worker_of<'r>(alloc: Global, repo: &'r Repo, memo: &Memo<'r>) -> Result<Seen<'r>, AllocError>
     requires { length repo.now.values ≤ length memo.now }
