@@ -22,6 +22,7 @@ mod HeldLines
 mod HeldRuns
 mod HeldTexts
 mod HoldersTold
+mod HoldsLaw
 mod Keeping
 mod LevelsWalked
 mod LifeMade

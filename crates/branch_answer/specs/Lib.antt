@@ -5,6 +5,7 @@ pub mod Explicit
 pub mod ExplicitFound
 pub mod HeldRevisions
 pub mod Holding
+pub mod HoldsLaw
 pub mod KeptAncestor
 pub mod KeptChildren
 pub mod KeptDescendants

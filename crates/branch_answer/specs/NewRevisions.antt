@@ -1,6 +1,6 @@
 -- The revisions of which one path holds more than another one: what is new in a branch (Subversion book, "Branching and
 -- Merging", "Mergeinfo and Previews").
-use Rattle.std.specs.Prelude.{◌≡◌, ℕ, ◌-◌, nat_lt, Bool, true, false, List, [], ◌∷◌, ◌++◌, Option, Some, None, codes, decimal, length, map, if◌then◌else◌}
+use Rattle.std.specs.Prelude.{◌≡◌, ◌⊎◌, ℕ, ◌-◌, nat_lt, Bool, true, false, List, [], ◌∷◌, ◌++◌, Option, Some, None, codes, decimal, length, map, if◌then◌else◌}
 use Rattle.range_list.specs.Canonical.{canonical_runs, run_of_one}
 use Rattle.range_list.specs.Rangelist.{is_in}
 use Rattle.range_list.specs.Text.{rangelist_text}
@@ -77,3 +77,9 @@ rangelist_lines (held ∷ others) = rangelist_text (canonical_runs (map run_of_h
 -- a path holds nothing that it doesn't hold itself
 abbrev pub NothingIsNew : HistoryOfBytes → TreesOfBytes → Type 0
 NothingIsNew history trees = (one : Holder) (range : ℕ × ℕ) (uncounted : List Run) → new_in history trees one one range uncounted ≡ []
+
+-- a revision is new in one direction alone
+abbrev pub NewOneWay : HistoryOfBytes → TreesOfBytes → Type 0
+NewOneWay history trees =
+    (one other : Holder) (uncounted : List Run) (rev : ℕ)
+    → (new_holding history trees one other uncounted rev ≡ None) ⊎ (new_holding history trees other one uncounted rev ≡ None)

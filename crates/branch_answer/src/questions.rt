@@ -4,8 +4,9 @@ ghost use Rattle.svn_dump.specs.Dump.{history_in_bytes};
 ghost use Rattle.query_answer.specs.Repo.{trees_in_bytes};
 ghost use Rattle.query_answer.specs.Worker.{IsSeenOf};
 ghost use Rattle.branch_answer.specs.DescendantsLaw.{HaveDescendants};
+ghost use Rattle.branch_answer.specs.HoldsLaw.{HoldsByRange};
 ghost use Rattle.branch_answer.specs.LivesLaw.{HaveLives};
-ghost use Rattle.branch_answer.specs.NewRevisions.{NothingIsNew};
+ghost use Rattle.branch_answer.specs.NewRevisions.{NewOneWay, NothingIsNew};
 ghost use Rattle.branch_answer.specs.Question.{question_view};
 ghost use Rattle.branch_answer.specs.QuestionAnswer.{kept_answer, question_answer_in};
 ghost use Rattle.branch_answer.specs.Told.{IsUntold, TellsLines};
@@ -44,8 +45,12 @@ pub fn answer_question<'r>(
     ensures lives { HaveLives (trees_in_bytes repo.now) }
     // The descendants of a path are the paths that were located there, and no others.
     ensures descendants { HaveDescendants (trees_in_bytes repo.now) }
+    // What a path holds of a range is what it holds of a wider one, without the revisions outside.
+    ensures holds { HoldsByRange (history_in_bytes repo.now) (trees_in_bytes repo.now) }
     // Nothing is new between a path and itself.
     ensures new { NothingIsNew (history_in_bytes repo.now) (trees_in_bytes repo.now) }
+    // No revision is new between two paths in both directions.
+    ensures one_way { NewOneWay (history_in_bytes repo.now) (trees_in_bytes repo.now) }
 {
     let mut text = Vec::new(alloc);
     match append_lines(alloc, repo, question, memo, seen, &mut text) {
